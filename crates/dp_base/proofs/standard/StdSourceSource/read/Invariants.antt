@@ -1,0 +1,6 @@
+-- no fault is counted before the loop ends
+use Rattle.std.proofs.Common.{◌≡◌}
+use Rattle.dp_base.proofs.standard.StdSourceSource.read.Given as goal
+
+abbrev pub invariant-loop-counter : goal.invariant-loop-counter
+invariant-loop-counter l = l.self.faults ≡ l.fn.self.faults

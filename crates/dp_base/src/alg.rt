@@ -1,0 +1,64 @@
+//! The algorithms of a key, and their codes in records.
+
+ghost use Rattle.std.specs.Prelude.{◌≡◌, ◌↔◌, IsNone, IfSome};
+ghost use Rattle.dp_base.specs.Codes.{IsCode, code_of, size_place};
+
+/// The size of an AES key (FIPS 197, section 5).
+#[derive(Clone, Copy, Debug, PartialEq, Eq)]
+pub enum AesSize {
+    A128,
+    A192,
+    A256,
+}
+
+/// Encryption with validation.
+#[derive(Clone, Copy, Debug, PartialEq, Eq)]
+pub enum Alg {
+    /// CBC with HMAC over SHA-256.
+    Cbc256(AesSize),
+    /// CBC with HMAC over SHA-512.
+    Cbc512(AesSize),
+    /// GCM, whose tag validates.
+    Gcm(AesSize),
+}
+
+/// The algorithm of a code of 1 to 9; every other code has none.
+pub fn alg_of(code: u8) -> Option<Alg>
+    ensures none { IsNone result ↔ ¬ IsCode code }
+    ensures value { IfSome result (λ alg. code_of alg ≡ code) }
+{
+    match code {
+        1 => Some(Alg::Cbc256(AesSize::A128)),
+        2 => Some(Alg::Cbc256(AesSize::A192)),
+        3 => Some(Alg::Cbc256(AesSize::A256)),
+        4 => Some(Alg::Cbc512(AesSize::A128)),
+        5 => Some(Alg::Cbc512(AesSize::A192)),
+        6 => Some(Alg::Cbc512(AesSize::A256)),
+        7 => Some(Alg::Gcm(AesSize::A128)),
+        8 => Some(Alg::Gcm(AesSize::A192)),
+        9 => Some(Alg::Gcm(AesSize::A256)),
+        _ => None,
+    }
+}
+
+/// The code of an algorithm, 1 to 9.
+pub fn code_of(alg: Alg) -> u8
+    ensures { result ≡ code_of alg }
+{
+    match alg {
+        Alg::Cbc256(size) => place_of(size),
+        Alg::Cbc512(size) => 3 + place_of(size),
+        Alg::Gcm(size) => 6 + place_of(size),
+    }
+}
+
+// The place of a size among the three, from 1.
+fn place_of(size: AesSize) -> u8
+    ensures { result ≡ size_place size }
+{
+    match size {
+        AesSize::A128 => 1,
+        AesSize::A192 => 2,
+        AesSize::A256 => 3,
+    }
+}

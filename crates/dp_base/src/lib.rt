@@ -1,0 +1,25 @@
+//! What every crate of the key ring stands on: key ids, big-endian fields, algorithm codes, moments
+//! in ticks, and the traits of the outside with their forms in memory and on the standard streams.
+#![tactic(auto)]
+
+mod alg;
+mod cipher;
+mod fields;
+mod key_id;
+mod memory;
+mod sink;
+mod source;
+mod standard;
+mod ticks;
+mod want;
+
+pub use alg::{AesSize, Alg, alg_of, code_of};
+pub use cipher::{BlockCipher, Prf};
+pub use fields::{be32, be64, take_be32, take_be64};
+pub use key_id::{KeyId, guid_bytes, guid_one_to_one, key_id_from_guid, key_id_text};
+pub use memory::{MemSink, MemSource};
+pub use sink::Sink;
+pub use source::{Failed, Source};
+pub use standard::{StdSink, StdSource};
+pub use ticks::{LAST, MAX_TICKS, TICKS_PER_DAY};
+pub use want::Memory;

@@ -7,7 +7,7 @@ use Rattle.std.proofs.lemmas.List.Folds.{list_all_at}
 use Rattle.std.proofs.lemmas.List.Sums.{AllPass-from_list_all, list_all-from_AllPass}
 use Rattle.default_key.specs.declared.key_facts.KeyFacts.{KeyFacts}
 use Rattle.default_key.specs.Choice.{is_maximum}
-use Rattle.default_key.proofs.Places.{position-first, position-none}
+use Rattle.default_key.proofs.Places.{and_false, and_left, position-first, position-none}
 
 -- of the first n keys, the one at place passes and goes before each earlier one that passes, and no
 -- one that passes goes before it
@@ -30,14 +30,6 @@ list_all-filter q p (x ∷ xs) = elim (cases_Bool (p x)) [
   | inl holds ↦ rw holds (ap (λ b. q x && b) (list_all-filter q p xs))
   | inr fails ↦ rw fails (list_all-filter q p xs)
 ]
-
-and_false : (b : Bool) → (b && false) ≡ false
-and_false true = refl
-and_false false = refl
-
-and_left : (a b : Bool) → (a && b) ≡ true → a ≡ true
-and_left true b h = refl
-and_left false b h = h
 
 -- the maximum's test at each element
 is_maximum-each : (passes : KeyFacts → Bool) (before : KeyFacts → KeyFacts → Bool) (keys : List KeyFacts) (key : KeyFacts) → is_maximum passes before keys key ≡ (passes key && list_all (λ other. not (passes other) || not (before other key)) keys)

@@ -35,9 +35,17 @@ is_older a b = nat_lt a.creation b.creation
 abbrev pub is_maximum : (KeyFacts → Bool) → (KeyFacts → KeyFacts → Bool) → List KeyFacts → KeyFacts → Bool
 is_maximum passes before keys key = passes key && list_all (λ other. not (before other key)) (filter passes keys)
 
--- whether the key is the best and is sound and unexpired (Preference)
+-- whether the key is active and no active key is ahead of it (Preference)
+abbrev pub is_best : List KeyFacts → ℕ → KeyFacts → Bool
+is_best keys now key = is_maximum (is_active now) is_ahead keys key
+
+-- whether the key is sound and hasn't expired (Preference)
+abbrev pub is_valid : ℕ → KeyFacts → Bool
+is_valid now key = is_sound key && nat_lt now key.expiration
+
+-- whether the key is the best and is valid; no other takes its place (Preference)
 abbrev pub is_preferred : List KeyFacts → ℕ → KeyFacts → Bool
-is_preferred keys now key = is_maximum (is_active now) is_ahead keys key && (is_sound key && nat_lt now key.expiration)
+is_preferred keys now key = is_best keys now key && is_valid now key
 
 -- the place of the preferred key (Preference)
 abbrev pub preferred_of : List KeyFacts → ℕ → Option ℕ

@@ -26,9 +26,13 @@ IsBest keys now key = IsActive now key × All (λ other. IsActive now other → 
 abbrev pub IsSound : KeyFacts → Type 0
 IsSound key = IsTrue key.usable × (key.revoked ≡ false)
 
--- the best key, where it is sound and hasn't expired; no other takes its place (Preference)
+-- the key is sound and hasn't expired (Preference)
+abbrev pub IsValid : ℕ → KeyFacts → Type 0
+IsValid now key = IsSound key × (now < key.expiration)
+
+-- the best key, where it is valid; no other takes its place (Preference)
 abbrev pub IsPreferred : List KeyFacts → ℕ → KeyFacts → Type 0
-IsPreferred keys now key = IsBest keys now key × IsSound key × (now < key.expiration)
+IsPreferred keys now key = IsBest keys now key × IsValid now key
 
 -- an unrevoked key takes over from the key before it expires, and lives on (Renewal)
 abbrev pub TakesOver : ℕ → KeyFacts → KeyFacts → Type 0

@@ -76,14 +76,11 @@ fn preferred_place(keys: &[KeyFacts], now: u64, options: &Options) -> Option<usi
     requires ids { HaveDistinctIds keys.now }
     ensures { result ≡ preferred_of keys.now now }
 {
-    let place = first_of(
-        &Latest {
-            until: now + options.skew,
-        },
-        keys,
-    )?;
-    let best = keys[place];
-    if best.is_sound() && now < best.expiration {
+    let active = Latest {
+        until: now + options.skew,
+    };
+    let place = first_of(&active, keys)?;
+    if keys[place].is_valid(now) {
         Some(place)
     } else {
         None

@@ -1,4 +1,6 @@
+pub mod Clauses
 pub mod Exists
+pub mod Firsts
 pub mod Maxima
 pub mod Places
 pub mod Preference

@@ -21,7 +21,7 @@ is_older-tells : (a b : KeyFacts) → Decides (is_older a b) (a.creation < b.cre
 is_older-tells a b = Decides-ltb a.creation b.creation
 
 not_below : {a b : ℕ} → (a < b → ⊥) → b ≤ a
-not_below h = ?
+not_below h = omega (arith, h)
 
 is_sound-tells : (key : KeyFacts) → Decides (is_sound key) (IsSound key)
 is_sound-tells key = grind arith

@@ -15,11 +15,8 @@ ghost use Rattle.std.specs.Prelude.{
 };
 ghost use Rattle.dp_base.specs.declared.ticks.TheConstants.{LAST, MAX_TICKS};
 ghost use Rattle.std.specs.List.{list_any};
-ghost use Rattle.std.specs.Option.{option_or};
 ghost use Rattle.default_key.specs.Choice.{
-  newest_of,
-  oldest_of,
-  policy_of,
+  fallback_of, policy_of,
   preferred_of,
   renew_of,
   takes_over,
@@ -59,14 +56,10 @@ pub fn resolve(keys: &[KeyFacts], now: u64, options: &Options) -> Policy
     ensures fallback_within { IfSome result.fallback (λ place. place < length keys.now) }
 {
     let preferred = preferred_place(keys, now, options);
-    let fallback = match preferred {
-        Some(_) => None,
-        None => sound_place(keys, now, options),
-    };
     Policy {
         preferred,
         renew: is_due(keys, now, options, preferred),
-        fallback,
+        fallback: fallback_place(keys, now, options, preferred),
     }
 }
 
@@ -114,16 +107,25 @@ fn is_followed(keys: &[KeyFacts], now: u64, options: &Options, key: &KeyFacts) -
     })
 }
 
-// The place of the newest sound key that had the time to reach every node, or of the oldest sound
-// key.
-fn sound_place(keys: &[KeyFacts], now: u64, options: &Options) -> Option<usize>
-    ensures { result ≡ option_or (newest_of keys.now now) (oldest_of keys.now) }
+// Where no key is preferred, the place of the newest sound key that had the time to reach every
+// node, or else of the oldest sound key.
+fn fallback_place(
+    keys: &[KeyFacts],
+    now: u64,
+    options: &Options,
+    preferred: Option<usize>,
+) -> Option<usize>
+    requires { preferred ≡ preferred_of keys.now now }
+    ensures { result ≡ fallback_of keys.now now }
 {
-    let newest = Newest {
+    if preferred.is_some() {
+        return None;
+    }
+    let settled = Newest {
         now,
         propagation: options.propagation,
     };
-    match first_of(&newest, keys) {
+    match first_of(&settled, keys) {
         Some(place) => Some(place),
         None => first_of(&Oldest, keys),
     }

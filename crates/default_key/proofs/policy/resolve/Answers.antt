@@ -1,12 +1,11 @@
-use Rattle.default_key.proofs.Tells.{is_preferred-tells}
-use Rattle.default_key.proofs.Exists.{}
+use Rattle.default_key.proofs.Clauses.{fallback_of-tells, preferred_of-tells, renew_of-tells}
 use Rattle.default_key.proofs.policy.resolve.Goals as goal
 
 pub returns-clause-preferred : goal.returns-clause-preferred
-returns-clause-preferred c = ?
+returns-clause-preferred c = rw c.preferred_place-preferred.ensures (preferred_of-tells c.args.keys.now c.args.now c.requires.ids)
 
 pub returns-clause-renew : goal.returns-clause-renew
-returns-clause-renew c = ?
+returns-clause-renew c = rw c.is_due.ensures (renew_of-tells c.args.keys.now c.args.now)
 
 pub returns-clause-fallback : goal.returns-clause-fallback
-returns-clause-fallback c = ?
+returns-clause-fallback c = rw c.fallback_place.ensures (fallback_of-tells c.args.keys.now c.args.now)

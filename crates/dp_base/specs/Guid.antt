@@ -10,10 +10,10 @@ swapped_fields bytes =
     reverse (take 4 bytes) ++ reverse (take 2 (drop 4 bytes)) ++ reverse (take 2 (drop 6 bytes)) ++ drop 8 bytes
 
 -- the bytes of an id
-abbrev pub guid : ℕ → List ℕ
+unfoldable pub guid : ℕ → List ℕ
 guid id = swapped_fields (to_be_bytes w128 id)
 
 -- the text of an id: its bytes as 32 digits of sixteen in lower case, with a hyphen after the
 -- 8th, the 12th, the 16th and the 20th (RFC 9562, section 4)
-abbrev pub key_text : ℕ → List ℕ
+unfoldable pub key_text : ℕ → List ℕ
 key_text id = hyphenated_text lower (to_be_bytes w128 id)

@@ -6,25 +6,8 @@ use Rattle.uuid.specs.Parts.{swap_fields}
 use Rattle.uuid.proofs.OrderLemmas.{from_be_bytes-to_be_bytes_16}
 use Rattle.uuid.proofs.RoundTrips.{swap_twice}
 use Rattle.dp_base.specs.Blocks.{AreBytes}
-use Rattle.dp_base.specs.Guid.{guid}
+use Rattle.dp_base.specs.Guid.{guid, id_of_guid}
 use Rattle.dp_base.proofs.Bytes.{be_bytes_16}
-
--- the library's swap of the canonical bytes is the layout
-pub guid-is-swap : (id : ℕ) → guid id ≡ swap_fields (to_be_bytes w128 id)
-unfolding guid
-guid-is-swap id = refl
-
--- the number of the bytes back in order
-pub back : (id : ℕ) → id < 2 ^ 128 → from_be_bytes w128 (swap_fields (guid id)) ≡ id
-back id lt =
-    ap (λ (x : List ℕ). from_be_bytes w128 (swap_fields x)) (guid-is-swap id)
-    ∙ ap (from_be_bytes w128) (swap_twice (to_be_bytes w128 id) refl)
-    ∙ from_be_bytes-to_be_bytes_16 id lt
-
--- an id is told by its layout
-pub guid-injective : (a b : ℕ) → a < 2 ^ 128 → b < 2 ^ 128 → guid a ≡ guid b → a ≡ b
-guid-injective a b p q e =
-    sym (back a p) ∙ ap (λ (x : List ℕ). from_be_bytes w128 (swap_fields x)) e ∙ back b q
 
 AreBytes-each : (bs : List ℕ) → AllByRecursion (λ b. b < 256) bs → AreBytes bs
 AreBytes-each [] each i = omega arith
@@ -37,9 +20,22 @@ AreBytes-swap bytes fits =
     AreBytes-each (swap_fields bytes)
     (fits 3, (fits 2, (fits 1, (fits 0, (fits 5, (fits 4, (fits 7, (fits 6, (fits 8, (fits 9, (fits 10, (fits 11, (fits 12, (fits 13, (fits 14, (fits 15, tt))))))))))))))))
 
--- the layout of the number read from the bytes put back in order is the bytes
-pub guid-of-number : (bytes : List ℕ) → length bytes ≡ 16 → AreBytes bytes → guid (from_be_bytes w128 (swap_fields bytes)) ≡ bytes
-guid-of-number bytes len fits =
-    guid-is-swap _
-    ∙ ap swap_fields (be_bytes_16 (swap_fields bytes) refl (AreBytes-swap bytes fits))
-    ∙ swap_twice bytes len
+-- the layout of the id of sixteen bytes is these bytes
+pub guid-id_of_guid : (bytes : List ℕ) → length bytes ≡ 16 → AreBytes bytes → guid (id_of_guid bytes) ≡ bytes
+unfolding guid id_of_guid
+guid-id_of_guid bytes len fits =
+    ap swap_fields (be_bytes_16 (swap_fields bytes) refl (AreBytes-swap bytes fits)) ∙ swap_twice bytes len
+
+-- the id of the layout of an id is that id
+pub id_of_guid-guid : (id : ℕ) → id < 2 ^ 128 → id_of_guid (guid id) ≡ id
+unfolding guid id_of_guid
+id_of_guid-guid id lt = ap (from_be_bytes w128) (swap_twice (to_be_bytes w128 id) refl) ∙ from_be_bytes-to_be_bytes_16 id lt
+
+-- a layout has sixteen bytes
+pub length-guid : (id : ℕ) → length (guid id) ≡ 16
+unfolding guid
+length-guid id = refl
+
+-- an id is told by its layout
+pub guid-injective : (a b : ℕ) → a < 2 ^ 128 → b < 2 ^ 128 → guid a ≡ guid b → a ≡ b
+guid-injective a b p q e = sym (id_of_guid-guid a p) ∙ ap id_of_guid e ∙ id_of_guid-guid b q

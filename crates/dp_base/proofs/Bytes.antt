@@ -67,3 +67,8 @@ pub be_bytes_16 : (bs : List ℕ) → length bs ≡ 16 → AreBytes bs → to_be
 be_bytes_16 bs len fits =
     let digits : bytes_high_first (length bs) (value bs) ≡ bs = simp (zero-mul, zero-add) at (digits-value 0 bs fits) in
     ap (to_be_bytes w128) (from-value bs len) ∙ subst (λ (k : ℕ). bytes_high_first k (value bs) ≡ bs) len digits
+
+-- sixteen bytes are a number below 2 ^ 128
+pub from_be_bytes-below : (bs : List ℕ) → length bs ≡ 16 → AreBytes bs → from_be_bytes w128 bs < 2 ^ 128
+from_be_bytes-below bs len fits =
+    rw (from-value bs len) (subst (λ (k : ℕ). value bs < 256 ^ k) len (value-below bs fits))

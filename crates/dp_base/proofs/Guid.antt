@@ -7,7 +7,7 @@ use Rattle.uuid.proofs.OrderLemmas.{from_be_bytes-to_be_bytes_16}
 use Rattle.uuid.proofs.RoundTrips.{swap_twice}
 use Rattle.dp_base.specs.Blocks.{AreBytes}
 use Rattle.dp_base.specs.Guid.{guid, id_of_guid}
-use Rattle.dp_base.proofs.Bytes.{be_bytes_16}
+use Rattle.dp_base.proofs.Bytes.{be_bytes_16, from_be_bytes-below}
 
 AreBytes-each : (bs : List ℕ) → AllByRecursion (λ b. b < 256) bs → AreBytes bs
 AreBytes-each [] each i = omega arith
@@ -39,3 +39,8 @@ length-guid id = refl
 -- an id is told by its layout
 pub guid-injective : (a b : ℕ) → a < 2 ^ 128 → b < 2 ^ 128 → guid a ≡ guid b → a ≡ b
 guid-injective a b p q e = sym (id_of_guid-guid a p) ∙ ap id_of_guid e ∙ id_of_guid-guid b q
+
+-- the id of sixteen bytes is below 2 ^ 128
+pub id_of_guid-below : (bytes : List ℕ) → AreBytes bytes → id_of_guid bytes < 2 ^ 128
+unfolding id_of_guid
+id_of_guid-below bytes fits = from_be_bytes-below (swap_fields bytes) refl (AreBytes-swap bytes fits)

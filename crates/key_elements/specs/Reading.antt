@@ -1,14 +1,14 @@
 -- Reading a record: its fields in order, of which the first that is wrong decides.
 use Rattle.std.specs.Prelude.{◌≡◌, ℕ, ◌<◌, ◌≤◌, ◌+◌, zero, suc, List, [], ◌∷◌, length, take, drop, slice_index, Result, Ok, Err, nat_lt, if◌then◌else◌}
-use Rattle.std.specs.Int.{w64, w128, from_be_bytes}
-use Rattle.dp_base.specs.declared.TheConstants.{MAX_TICKS}
-use Rattle.dp_base.specs.Guid.{swapped_fields}
+use Rattle.std.specs.Int.{w64, from_be_bytes}
+use Rattle.dp_base.specs.declared.ticks.TheConstants.{MAX_TICKS}
+use Rattle.dp_base.specs.Guid.{id_of_guid}
 use Rattle.key_elements.specs.declared.element.KeyRecord.{KeyRecord}
 use Rattle.key_elements.specs.declared.element.Element.{Element}
 use Rattle.key_elements.specs.declared.element.Element.TheVariants.{Key}
 use Rattle.key_elements.specs.declared.refused.ElementRefused.{ElementRefused}
 use Rattle.key_elements.specs.declared.refused.ElementRefused.TheVariants.{Cut, UnknownKind, BadDate}
-use Rattle.key_elements.specs.declared.TheConstants.{MAX_ELEMENTS}
+use Rattle.key_elements.specs.declared.list.TheConstants.{MAX_ELEMENTS}
 use Rattle.key_elements.specs.Record.{AreRecords}
 
 infixl 10 ◌>>=◌
@@ -37,14 +37,17 @@ key_at bytes = do
   expiration ← date_at activation.1
   alg ← bytes_at 1 expiration.1
   material ← bytes_at 64 alg.1
-  Ok (record {
-    id = record { 0 = from_be_bytes w128 (swapped_fields id.0) };
-    creation = creation.0;
-    activation = activation.0;
-    expiration = expiration.0;
-    alg = slice_index alg.0 0;
-    material = material.0;
-  }, material.1)
+  Ok (
+    record {
+      id = record { 0 = id_of_guid id.0 };
+      creation = creation.0;
+      activation = activation.0;
+      expiration = expiration.0;
+      alg = slice_index alg.0 0;
+      material = material.0;
+    },
+    material.1,
+  )
 
 -- the element at the front, and the bytes after its record
 unfoldable pub element_at : List ℕ → Result (Element × List ℕ) ElementRefused

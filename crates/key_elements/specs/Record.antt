@@ -3,26 +3,26 @@
 use Rattle.std.specs.Prelude.{◌≡◌, ℕ, ◌<◌, ◌≤◌, ◌^◌, List, ◌∷◌, [], ◌++◌, length, take}
 use Rattle.std.specs.List.{flat_map, AllByRecursion}
 use Rattle.std.specs.Int.{w64, to_be_bytes}
-use Rattle.dp_base.specs.declared.TheConstants.{MAX_TICKS}
+use Rattle.dp_base.specs.declared.ticks.TheConstants.{MAX_TICKS}
 use Rattle.dp_base.specs.Blocks.{AreBytes}
 use Rattle.dp_base.specs.Guid.{guid}
 use Rattle.key_elements.specs.declared.element.KeyRecord.{KeyRecord}
 use Rattle.key_elements.specs.declared.element.Element.{Element}
 use Rattle.key_elements.specs.declared.element.Element.TheVariants.{Key}
-use Rattle.key_elements.specs.declared.TheConstants.{MAX_ELEMENTS}
+use Rattle.key_elements.specs.declared.list.TheConstants.{MAX_ELEMENTS}
 
 -- a date: eight bytes
 abbrev pub date : ℕ → List ℕ
 date d = to_be_bytes w64 d
 
--- the kind 1, the id, three dates, the code and the material: 106 bytes
-unfoldable pub key_record : KeyRecord → List ℕ
-key_record k =
-    1 ∷ guid k.id.0 ++ date k.creation ++ date k.activation ++ date k.expiration ++ k.alg ∷ k.material
+-- the id, three dates, the code and the material: 105 bytes
+unfoldable pub key_fields : KeyRecord → List ℕ
+key_fields k =
+    guid k.id.0 ++ date k.creation ++ date k.activation ++ date k.expiration ++ k.alg ∷ k.material
 
--- the record of an element
+-- the record of an element: its kind and its fields
 abbrev pub record_of : Element → List ℕ
-record_of (Key k) = key_record k
+record_of (Key k) = 1 ∷ key_fields k
 
 -- what a key record can hold
 pub record IsKey (k : KeyRecord) : Type 0 where

@@ -20,7 +20,7 @@ pub struct ElementList {
 impl Model for ElementList {
     ghost use Rattle.std.specs.Prelude.{◌≤◌, List, length};
     ghost use Rattle.key_elements.specs.declared.element.Element.{Element};
-    ghost use Rattle.key_elements.specs.declared.TheConstants.{MAX_ELEMENTS};
+    ghost use Rattle.key_elements.specs.declared.list.TheConstants.{MAX_ELEMENTS};
 
     ghost Value = { List Element };
 

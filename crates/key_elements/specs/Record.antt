@@ -42,6 +42,11 @@ IsElement (Key k) = IsKey k
 abbrev pub IsRecord : List ℕ → Element → Type 0
 IsRecord bytes e = IsElement e × (bytes ≡ record_of e)
 
+-- what a list can hold
+pub record AreListed (es : List Element) : Type 0 where
+  pub few : length es ≤ MAX_ELEMENTS
+  pub elements : AllByRecursion IsElement es
+
 -- the bytes are the records of the elements one after the other
 abbrev pub AreRecords : List ℕ → List Element → Type 0
 AreRecords bytes es = AllByRecursion IsElement es × (bytes ≡ flat_map record_of es)

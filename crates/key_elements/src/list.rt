@@ -1,8 +1,8 @@
 //! Lists of elements.
 
-ghost use Rattle.std.specs.Prelude.{◌≡◌, ◌≤◌, List, [], length, slice_get};
+ghost use Rattle.std.specs.Prelude.{◌≡◌, ◌≤◌, [], length, slice_get};
 ghost use Rattle.std.specs.Option.{option_copied};
-ghost use Rattle.key_elements.specs.declared.element.Element.{Element};
+ghost use Rattle.key_elements.specs.Record.{AreListed};
 
 use crate::element::Element;
 use std::alloc::Global;
@@ -11,22 +11,23 @@ use std::marker::Model;
 /// The most elements of a list, and so of a repository.
 pub const MAX_ELEMENTS: u64 = 16_384;
 
-/// A list of at most `MAX_ELEMENTS` elements. Clauses see it as a list.
+/// A list of at most `MAX_ELEMENTS` elements whose dates are at most the greatest. Clauses see it
+/// as a list.
 #[derive(Debug, Drop)]
 pub struct ElementList {
     items: Vec<Element>,
 }
 
 impl Model for ElementList {
-    ghost use Rattle.std.specs.Prelude.{◌≤◌, List, length};
+    ghost use Rattle.std.specs.Prelude.{List};
     ghost use Rattle.key_elements.specs.declared.element.Element.{Element};
-    ghost use Rattle.key_elements.specs.declared.list.TheConstants.{MAX_ELEMENTS};
+    ghost use Rattle.key_elements.specs.Record.{AreListed};
 
     ghost Value = { List Element };
 
     ghost view = { λ list. list.items.items };
 
-    ghost invariant = { λ list. length list.items.items ≤ MAX_ELEMENTS };
+    ghost invariant = { λ list. AreListed list.items.items };
 }
 
 impl ElementList {
@@ -41,7 +42,7 @@ impl ElementList {
 
     // The list of these elements.
     pub(crate) fn of(items: Vec<Element>) -> ElementList
-        requires { length items.items ≤ MAX_ELEMENTS }
+        requires { AreListed items.items }
         ensures { result ≡ items.items }
     {
         ElementList { items }
@@ -64,7 +65,8 @@ impl ElementList {
 
     /// The elements in order.
     pub fn as_slice(&self) -> &[Element]
-        ensures { result.now ≡ self.now }
+        ensures value { result.now ≡ self.now }
+        ensures listed { AreListed self.now }
     {
         self.items.as_slice()
     }

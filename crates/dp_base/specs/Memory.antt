@@ -1,7 +1,6 @@
 -- A source and a sink in memory, as clauses see them, and what a call leaves of them.
-use Rattle.std.specs.Prelude.{ℕ, Bool, List, ◌++◌, ◌==◌, length, drop, min, if◌then◌else◌, Result, Ok, Err}
+use Rattle.std.specs.Prelude.{ℕ, Bool, List, ◌++◌, ◌==◌, length, drop, min}
 use Rattle.std.specs.List.{list_any}
-use Rattle.dp_base.specs.declared.source.Failed.{Failed}
 use Rattle.dp_base.specs.Counts.{one_more}
 
 pub record Input : Type 0 where
@@ -30,14 +29,13 @@ fails fail call = list_any (λ n. n == call) fail
 abbrev pub moved : Input → ℕ → ℕ
 moved s room = min (min s.piece room) (length s.left)
 
-abbrev pub read_result : Input → ℕ → Result ℕ Failed
-read_result s room = if fails s.fail s.calls then Err (record {}) else Ok (moved s room)
-
+-- a read that moved n bytes
 abbrev pub read_leaves : Input → ℕ → Input
-read_leaves s room =
-    if fails s.fail s.calls
-    then record s { calls = one_more s.calls; faults = one_more s.faults }
-    else record s { calls = one_more s.calls; left = drop (moved s room) s.left }
+read_leaves s n = record s { calls = one_more s.calls; left = drop n s.left }
+
+-- a read that failed
+abbrev pub read_failed : Input → Input
+read_failed s = record s { calls = one_more s.calls; faults = one_more s.faults }
 
 -- a write that took these bytes
 abbrev pub write_leaves : Output → List ℕ → Output

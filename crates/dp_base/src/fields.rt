@@ -20,7 +20,7 @@ pub fn be64(n: u64) -> [u8; 8]
 /// The number in the first four bytes; more may follow.
 pub fn take_be32(bytes: &[u8]) -> Option<u32>
     ensures few { IsNone result ↔ (length bytes.now < 4) }
-    ensures value { IfSome result (λ n. to_be_bytes w32 n ≡ take 4 bytes.now) }
+    ensures value { IfSome result (λ n. n ≡ from_be_bytes w32 (take 4 bytes.now)) }
 {
     match bytes {
         [a, b, c, d, ..] => Some(u32::from_be_bytes([*a, *b, *c, *d])),
@@ -31,7 +31,7 @@ pub fn take_be32(bytes: &[u8]) -> Option<u32>
 /// The number in the first eight bytes; more may follow.
 pub fn take_be64(bytes: &[u8]) -> Option<u64>
     ensures few { IsNone result ↔ (length bytes.now < 8) }
-    ensures value { IfSome result (λ n. to_be_bytes w64 n ≡ take 8 bytes.now) }
+    ensures value { IfSome result (λ n. n ≡ from_be_bytes w64 (take 8 bytes.now)) }
 {
     match bytes {
         [a, b, c, d, e, f, g, h, ..] => {

@@ -1,7 +1,7 @@
 //! Ids of keys: 128-bit numbers, their .NET layout and their text.
 
 ghost use Rattle.std.specs.Prelude.{◌≡◌, ℕ, ◌<◌, ◌^◌, IfOk, string_bytes};
-ghost use Rattle.dp_base.specs.Guid.{guid, key_text};
+ghost use Rattle.dp_base.specs.Guid.{guid, id_of_guid, key_text};
 
 use crate::Memory;
 use std::alloc::Global;
@@ -21,7 +21,8 @@ pub fn guid_bytes(id: &KeyId) -> [u8; 16]
 
 /// The id whose bytes in .NET's layout these are.
 pub fn key_id_from_guid(bytes: &[u8; 16]) -> KeyId
-    ensures { guid result.0 ≡ bytes.now }
+    ensures value { result.0 ≡ id_of_guid bytes.now }
+    ensures undoes { guid result.0 ≡ bytes.now }
 {
     KeyId(Uuid::from_bytes_le(*bytes).as_u128())
 }

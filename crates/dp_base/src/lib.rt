@@ -23,3 +23,6 @@ pub use source::{Failed, Source};
 pub use standard::{StdSink, StdSource};
 pub use ticks::{LAST, MAX_TICKS, TICKS_PER_DAY};
 pub use want::Memory;
+
+#[cfg(test)]
+mod tests;

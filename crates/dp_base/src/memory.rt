@@ -1,9 +1,8 @@
 //! A source and a sink in memory, which move so many bytes a call and fail at the calls that they
 //! are told.
 
-ghost use Rattle.std.specs.Prelude.{◌≡◌, ◌≤◌, [], ◌++◌, min, length, take, OnErr, IfOk, IsErrOf, List, ℕ, Some};
-ghost use Rattle.std.specs.Bool.{OnTrue};
-ghost use Rattle.dp_base.specs.Memory.{fails, moved, read_result, read_leaves, write_leaves, write_failed};
+ghost use Rattle.std.specs.Prelude.{◌≡◌, ◌<◌, ◌≤◌, ◌↔◌, ℕ, List, [], min, length, take, Some, IsTrue, IsErr, IfOk, OnErr};
+ghost use Rattle.dp_base.specs.Memory.{fails, moved, read_leaves, read_failed, write_leaves, write_failed};
 
 use crate::sink::Sink;
 use crate::source::{Failed, Source};
@@ -68,9 +67,13 @@ impl Source for MemSource {
     ghost faults = { λ s. s.faults };
 
     fn read(&mut self, buffer: &mut [u8]) -> Result<usize, Failed>
-        ensures result { result ≡ read_result self.old (length buffer.old) }
+        ensures told { IsErr result ↔ IsTrue (fails self.old.fail self.old.calls) }
+        ensures count { IfOk result (λ n. n ≡ moved self.old (length buffer.new)) }
         ensures bytes { IfOk result (λ n. take n buffer.new ≡ take n self.old.left) }
-        ensures after { self.new ≡ read_leaves self.old (length buffer.old) }
+        ensures end { IfOk result (λ n. 0 < length buffer.new → n ≡ 0 → self.old.left ≡ []) }
+        ensures ok { IfOk result (λ n. self.new ≡ read_leaves self.old n) }
+        ensures err { OnErr result (self.new ≡ read_failed self.old) }
+        ensures never_falls { self.old.faults ≤ self.new.faults }
     {
         let call = self.calls;
         self.calls = call.saturating_add(1);
@@ -157,10 +160,12 @@ impl Sink for MemSink {
 
     fn write(&mut self, piece: &[u8]) -> Result<usize, Failed>
         // A call that isn't to fail fails for want of memory alone.
-        ensures told { OnTrue (fails self.old.fail self.old.calls) (IsErrOf result Failed) }
+        ensures told { IsTrue (fails self.old.fail self.old.calls) → IsErr result }
         ensures count { IfOk result (λ n. n ≡ min self.old.piece (length piece.now)) }
+        ensures some { IfOk result (λ n. 0 < length piece.now → 0 < n) }
         ensures ok { IfOk result (λ n. self.new ≡ write_leaves self.old (take n piece.now)) }
         ensures err { OnErr result (self.new ≡ write_failed self.old) }
+        ensures never_falls { self.old.faults ≤ self.new.faults }
     {
         let call = self.calls;
         self.calls = call.saturating_add(1);

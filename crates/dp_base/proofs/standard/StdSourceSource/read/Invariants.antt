@@ -2,5 +2,5 @@
 use Rattle.std.proofs.Common.{◌≡◌}
 use Rattle.dp_base.proofs.standard.StdSourceSource.read.Given as goal
 
-abbrev pub invariant-loop-counter : goal.invariant-loop-counter
-invariant-loop-counter l = l.self.faults ≡ l.fn.self.faults
+abbrev pub invariant-loop : goal.invariant-loop
+invariant-loop l = l.self.faults ≡ l.fn.self.faults

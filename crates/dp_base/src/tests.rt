@@ -1,0 +1,80 @@
+use super::*;
+use std::test::Fail;
+
+// docs/FORMATS.md, "Ids": the text of an id beside its layout.
+const K1: [u8; 16] = [
+    0x80, 0x9c, 0x81, 0x0c, 0x19, 0x66, 0x19, 0x40, 0x95, 0x36, 0x53, 0xf8, 0xaa, 0xff, 0xee, 0x57,
+];
+
+#[test]
+fn ids(rt: HostRuntime) -> Result<(), Fail> {
+    let id = KeyId(0x0c81_9c80_6619_4019_9536_53f8_aaff_ee57);
+    assert_eq!(rt; guid_bytes(&id), K1);
+    assert_eq!(rt; key_id_from_guid(&K1), id);
+    let text = key_id_text(rt.alloc(), &id)?;
+    assert_eq!(rt; text.as_str(), "0c819c80-6619-4019-9536-53f8aaffee57");
+    Ok(())
+}
+
+#[test]
+fn big_endian_fields(rt: HostRuntime) {
+    assert_eq!(rt; be32(0x0102_0304), [1, 2, 3, 4]);
+    assert_eq!(rt; be64(0x0102_0304_0506_0708), [1, 2, 3, 4, 5, 6, 7, 8]);
+    assert_eq!(rt; take_be32(&[1, 2, 3, 4, 9]), Some(0x0102_0304));
+    assert_eq!(rt; take_be32(&[1, 2, 3]), None);
+    assert_eq!(rt;
+        take_be64(&[1, 2, 3, 4, 5, 6, 7, 8, 9]),
+        Some(0x0102_0304_0506_0708)
+    );
+    assert_eq!(rt; take_be64(&[1, 2, 3, 4, 5, 6, 7]), None);
+}
+
+// docs/FORMATS.md, "Algorithm codes".
+#[test]
+fn codes(rt: HostRuntime) {
+    let table = [
+        (1, Alg::Cbc256(AesSize::A128)),
+        (2, Alg::Cbc256(AesSize::A192)),
+        (3, Alg::Cbc256(AesSize::A256)),
+        (4, Alg::Cbc512(AesSize::A128)),
+        (5, Alg::Cbc512(AesSize::A192)),
+        (6, Alg::Cbc512(AesSize::A256)),
+        (7, Alg::Gcm(AesSize::A128)),
+        (8, Alg::Gcm(AesSize::A192)),
+        (9, Alg::Gcm(AesSize::A256)),
+    ];
+    for (code, alg) in table {
+        assert_eq!(rt; alg_of(code), Some(alg), "code {code}");
+        assert_eq!(rt; code_of(alg), code, "code {code}");
+    }
+    for code in [0, 10, 200, 255] {
+        assert_eq!(rt; alg_of(code), None, "code {code}");
+    }
+}
+
+// Two bytes a call; the call with number 1 fails and leaves what is left.
+#[test]
+fn reading_in_pieces(rt: HostRuntime) -> Result<(), Fail> {
+    let bytes = [1, 2, 3].to_vec(rt.alloc())?;
+    let mut source = MemSource::new(bytes, 2, [1].to_vec(rt.alloc())?);
+    let mut buffer = [0; 4];
+    assert_eq!(rt; source.read(&mut buffer), Ok(2));
+    assert_eq!(rt; buffer, [1, 2, 0, 0]);
+    assert_eq!(rt; source.read(&mut buffer), Err(Failed));
+    assert_eq!(rt; source.read(&mut buffer), Ok(1));
+    assert_eq!(rt; buffer, [3, 2, 0, 0]);
+    assert_eq!(rt; source.read(&mut buffer), Ok(0));
+    Ok(())
+}
+
+// Two bytes a call; the call with number 1 fails and takes nothing.
+#[test]
+fn writing_in_pieces(rt: HostRuntime) -> Result<(), Fail> {
+    let mut sink = MemSink::new(rt.alloc(), 2, [1].to_vec(rt.alloc())?);
+    assert_eq!(rt; sink.write(&[1, 2, 3]), Ok(2));
+    assert_eq!(rt; sink.write(&[3]), Err(Failed));
+    assert_eq!(rt; sink.write(&[3]), Ok(1));
+    assert_eq!(rt; sink.write(&[]), Ok(0));
+    assert_eq!(rt; sink.into_bytes().as_slice(), [1, 2, 3].as_slice());
+    Ok(())
+}

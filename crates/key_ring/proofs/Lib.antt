@@ -1,0 +1,5 @@
+pub mod Puts
+pub mod Snoc
+pub mod Lookup
+pub mod KeysOf
+pub mod FactsOf

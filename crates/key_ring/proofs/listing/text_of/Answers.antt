@@ -1,0 +1,20 @@
+use Rattle.std.proofs.Common.{refl}
+use Rattle.key_ring.specs.Listing.{lines}
+use Rattle.key_ring.proofs.listing.text_of.Goals as goal
+
+pub returns : goal.returns
+unfolding lines
+returns c =
+    rw (
+      c.in_ok-push_str-3.ensures.bytes,
+      c.renew_line.ensures,
+      c.in_ok-push_str-2.ensures.bytes,
+      c.as_str.ensures.value,
+      c.in_ok-default_line.ensures,
+      c.key_at-preferred.ensures,
+      c.key_at-fallback.ensures,
+      c.in_ok-push_key_lines.ensures,
+      c.in_ok-push_str.ensures.bytes,
+      c.mass_line.ensures c.args.list.now,
+      c.in_ok-text.ensures,
+    ) refl

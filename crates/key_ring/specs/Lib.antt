@@ -1,0 +1,5 @@
+pub mod Keys
+pub mod Put
+pub mod Ring
+pub mod State
+pub mod Listing

@@ -1,9 +1,8 @@
 -- Where some key passes, there is a maximum of those that do.
-use Rattle.std.proofs.Common.{◌≡◌, ℕ, ◌+◌, ◌<◌, ◌≤◌, zero, suc, add-one, option_map, Bool, true, false, List, Option, None, Some, length, get_or, position, refl, sym, ◌∙◌, ap, inl, inr, arith}
+use Rattle.std.proofs.Common.{◌≡◌, ℕ, ◌+◌, ◌<◌, ◌≤◌, zero, suc, add-one, option_map, Bool, true, false, List, Option, None, Some, length, get_or, position, refl, sym, ◌∙◌, inl, inr, arith}
 use Rattle.std.specs.Cmp.{IsStrictWeakOrder}
 use Rattle.std.proofs.lemmas.Bool.{cases_Bool}
 use Rattle.std.proofs.lemmas.Grind.{common_steps}
-use Rattle.std.proofs.lemmas.List.{get_or_default}
 use Rattle.default_key.specs.declared.key_facts.KeyFacts.{KeyFacts}
 use Rattle.default_key.specs.Choice.{is_maximum}
 use Rattle.default_key.proofs.Maxima.{Found, IsHeld, position-found}
@@ -33,9 +32,9 @@ found_more passes before order keys d n None within found = elim (cases_Bool (pa
 ]
 found_more passes before order keys d n (Some held) within found = elim (cases_Bool (passes (get_or keys n d))) [
   | inl holds ↦ elim (cases_Bool (before (get_or keys n d) held.1)) [
-      | inl goes_first ↦ (Some (n, get_or keys n d), taken passes before order keys n held.0 d held.1 within holds goes_first found)
-      | inr stays ↦ (Some held, left passes before keys n held.0 d held.1 within stays found)
-    ]
+    | inl goes_first ↦ (Some (n, get_or keys n d), taken passes before order keys n held.0 d held.1 within holds goes_first found)
+    | inr stays ↦ (Some held, left passes before keys n held.0 d held.1 within stays found)
+  ]
   | inr fails ↦ (Some held, skipped passes before keys n d (Some held) within fails found)
 ]
 
@@ -43,9 +42,9 @@ found_more passes before order keys d n (Some held) within found = elim (cases_B
 found_among : (passes : KeyFacts → Bool) (before : KeyFacts → KeyFacts → Bool) (order : IsStrictWeakOrder before) (keys : List KeyFacts) (d : KeyFacts) (n : ℕ) → n ≤ length keys → (found : Option (ℕ × KeyFacts)) × Found passes before keys n found
 found_among passes before order keys d zero within = (None, λ k e h. absurd (omega arith))
 found_among passes before order keys d (suc n) within =
-  let earlier = found_among passes before order keys d n (omega arith) in
-  let more = found_more passes before order keys d n earlier.0 (omega arith) earlier.1 in
-  (more.0, rw (← add-one n) more.1)
+    let earlier = found_among passes before order keys d n (omega arith) in
+    let more = found_more passes before order keys d n earlier.0 (omega arith) earlier.1 in
+    (more.0, rw (← add-one n) more.1)
 
 none_found : (passes : KeyFacts → Bool) (before : KeyFacts → KeyFacts → Bool) (keys : List KeyFacts) (found : Option (ℕ × KeyFacts)) → Found passes before keys (length keys) found → option_map (λ (held : ℕ × KeyFacts). held.0) found ≡ None → (k : ℕ) (d : KeyFacts) → k < length keys → passes (get_or keys k d) ≡ false
 none_found passes before keys None all none = all
@@ -54,5 +53,5 @@ none_found passes before keys (Some held) all none = cc
 -- where there is no maximum, no key passes
 pub position-no_maximum : (passes : KeyFacts → Bool) (before : KeyFacts → KeyFacts → Bool) → IsStrictWeakOrder before → (keys : List KeyFacts) → position (is_maximum passes before keys) keys ≡ None → (k : ℕ) (d : KeyFacts) → k < length keys → passes (get_or keys k d) ≡ false
 position-no_maximum passes before order keys none k d within =
-  let all = found_among passes before order keys d (length keys) (omega arith) in
-  none_found passes before keys all.0 all.1 (sym (position-found passes before keys (length keys) all.0 refl all.1) ∙ none) k d within
+    let all = found_among passes before order keys d (length keys) (omega arith) in
+    none_found passes before keys all.0 all.1 (sym (position-found passes before keys (length keys) all.0 refl all.1) ∙ none) k d within

@@ -1,5 +1,5 @@
 -- What the tests of choices tell, each by the fact of its name.
-use Rattle.std.proofs.Common.{◌≡◌, ℕ, ◌<◌, ◌≤◌, ◌⊎◌, Bool, true, false, List, length, get_or, All, ap, inl, inr, arith}
+use Rattle.std.proofs.Common.{ℕ, ◌<◌, ◌≤◌, Bool, List, get_or, All, inl, inr, arith}
 use Rattle.std.specs.Bool.{Decides}
 use Rattle.std.proofs.lemmas.Bool.{cases_Bool}
 use Rattle.std.proofs.lemmas.Bool.Decides.{Decides-and, Decides-like, Decides-ltb, nat_tests}
@@ -41,15 +41,15 @@ is_maximum-tells passes before P B passes_tells before_tells keys key = (
   λ maximum. (
     (passes_tells key).0 (is_maximum-passes passes before keys key maximum),
     λ k d within passed beaten.
-      let unbeaten = is_maximum-unbeaten passes before keys key maximum k d within ((passes_tells (get_or keys k d)).1 passed) in
-      let beats = (before_tells (get_or keys k d) key).1 beaten in
-      cc
+        let unbeaten = is_maximum-unbeaten passes before keys key maximum k d within ((passes_tells (get_or keys k d)).1 passed) in
+        let beats = (before_tells (get_or keys k d) key).1 beaten in
+        cc,
   ),
   λ fact. is_maximum-true passes before keys key ((passes_tells key).1 fact.0)
-    (λ k d within passed. elim (cases_Bool (before (get_or keys k d) key)) [
-      | inl holds ↦ absurd (fact.1 k d within ((passes_tells (get_or keys k d)).0 passed) ((before_tells (get_or keys k d) key).0 holds))
-      | inr fails ↦ fails
-    ])
+      (λ k d within passed. elim (cases_Bool (before (get_or keys k d) key)) [
+        | inl holds ↦ absurd (fact.1 k d within ((passes_tells (get_or keys k d)).0 passed) ((before_tells (get_or keys k d) key).0 holds))
+        | inr fails ↦ fails
+      ]),
 )
 
 is_best-tells : (keys : List KeyFacts) (now : ℕ) (key : KeyFacts) → Decides (is_best keys now key) (IsBest keys now key)
@@ -61,12 +61,12 @@ is_preferred-tells keys now key = Decides-and (is_best keys now key) (is_valid n
 -- of the settled keys, none of a greater creation
 pub is_newest-tells : (keys : List KeyFacts) (now : ℕ) (key : KeyFacts) → Decides (is_maximum (is_settled now) is_newer keys key) (IsNewest keys now key)
 is_newest-tells keys now key = Decides-like (is_maximum (is_settled now) is_newer keys key)
-  (λ fact. (fact.0, λ k d within settled. not_below (fact.1 k d within settled)))
-  (λ fact. (fact.0, λ k d within settled newer. let older = fact.1 k d within settled in omega arith))
-  (is_maximum-tells (is_settled now) is_newer (IsSettled now) (λ a b. b.creation < a.creation) (is_settled-tells now) is_newer-tells keys key)
+    (λ fact. (fact.0, λ k d within settled. not_below (fact.1 k d within settled)))
+    (λ fact. (fact.0, λ k d within settled newer. let older = fact.1 k d within settled in omega arith))
+    (is_maximum-tells (is_settled now) is_newer (IsSettled now) (λ a b. b.creation < a.creation) (is_settled-tells now) is_newer-tells keys key)
 
 pub is_oldest-tells : (keys : List KeyFacts) (key : KeyFacts) → Decides (is_maximum is_sound is_older keys key) (IsOldest keys key)
 is_oldest-tells keys key = Decides-like (is_maximum is_sound is_older keys key)
-  (λ fact. (fact.0, λ k d within sound. not_below (fact.1 k d within sound)))
-  (λ fact. (fact.0, λ k d within sound older. let newer = fact.1 k d within sound in omega arith))
-  (is_maximum-tells is_sound is_older IsSound (λ a b. a.creation < b.creation) is_sound-tells is_older-tells keys key)
+    (λ fact. (fact.0, λ k d within sound. not_below (fact.1 k d within sound)))
+    (λ fact. (fact.0, λ k d within sound older. let newer = fact.1 k d within sound in omega arith))
+    (is_maximum-tells is_sound is_older IsSound (λ a b. a.creation < b.creation) is_sound-tells is_older-tells keys key)

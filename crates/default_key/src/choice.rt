@@ -1,23 +1,11 @@
 //! The first maximum of the keys that pass a test.
 
-ghost use Rattle.std.specs.Prelude.{
-  ◌≡◌,
-  ◌+◌,
-  ◌&&◌,
-  Bool,
-  true,
-  position,
-  nat_le,
-};
+ghost use Rattle.std.specs.Prelude.{◌≡◌, ◌+◌, ◌&&◌, Bool, true, position, nat_le};
 ghost use Rattle.std.specs.Cmp.{IsStrictWeakOrder};
 ghost use Rattle.std.specs.Option.{option_map_or};
 ghost use Rattle.default_key.specs.declared.key_facts.KeyFacts.{KeyFacts};
 ghost use Rattle.default_key.specs.Choice.{is_ahead, is_maximum, is_newer, is_older, is_sound};
-ghost use Rattle.default_key.specs.OrderLaws.{
-  IsStrictWeakOrder-is_ahead,
-  IsStrictWeakOrder-is_newer,
-  IsStrictWeakOrder-is_older,
-};
+ghost use Rattle.default_key.specs.OrderLaws.{IsStrictWeakOrder-is_ahead, IsStrictWeakOrder-is_newer, IsStrictWeakOrder-is_older};
 
 use crate::KeyFacts;
 
@@ -33,7 +21,8 @@ pub trait Choice {
     fn is_before(&self, key: &KeyFacts, other: &KeyFacts) -> bool
         ensures { result ≡ before key.now other.now };
 
-    // So a key that nothing goes before is the first of each list that it stands in.
+    // Of two keys at most one goes before the other, and keys of which neither does stand alike to
+    // every third.
     ghost ordered: { IsStrictWeakOrder before };
 }
 

@@ -24,14 +24,14 @@ impl KeyFacts {
     ghost use Rattle.default_key.specs.Choice.{is_sound, is_valid};
 
     /// Whether the key is usable and unrevoked.
-    pub fn is_sound(&self) -> bool
+    pub(crate) fn is_sound(&self) -> bool
         ensures { result ≡ is_sound self.now }
     {
         self.usable && !self.revoked
     }
 
     /// Whether the key is sound and hasn't expired at the moment.
-    pub fn is_valid(&self, now: u64) -> bool
+    pub(crate) fn is_valid(&self, now: u64) -> bool
         ensures { result ≡ is_valid now self.now }
     {
         self.is_sound() && now < self.expiration

@@ -44,7 +44,7 @@ pub struct Options {
 pub struct BadLifetime;
 
 impl Options {
-    /// Options whose new keys live so many days.
+    /// Options whose new keys live so many days. `BadLifetime` comes outside 7 to 3,650 days.
     pub fn new(lifetime_days: u64, auto: bool, new_alg: Alg) -> Result<Options, BadLifetime>
         ensures ok { IsOk result ↔ ((7 ≤ lifetime_days) × (lifetime_days ≤ 3650)) }
         ensures lifetime { IfOk result (λ o. o.lifetime ≡ lifetime_days * TICKS_PER_DAY) }
@@ -65,8 +65,8 @@ impl Options {
     }
 }
 
-// The standard options: keys are made where they are due, live 90 days and have the algorithm of
-// code 3.
+/// The standard options: keys are made where they are due, live 90 days and have the algorithm of
+/// code 3, AES-256 in CBC with HMAC over SHA-256.
 impl Default for Options {
     ghost is_default = { λ o. (o.lifetime ≡ 90 * TICKS_PER_DAY) × IsTrue o.auto × (o.new_alg ≡ Cbc256 A256) };
 

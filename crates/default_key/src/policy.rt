@@ -1,26 +1,9 @@
 //! The policy: which key is preferred, whether a new one is due, and which key to fall back on.
 
-ghost use Rattle.std.specs.Prelude.{
-  ◌≡◌,
-  ℕ,
-  ◌<◌,
-  ◌≤◌,
-  ◌↔◌,
-  false,
-  All,
-  IfSome,
-  IsSomeAnd,
-  length,
-  slice_get,
-};
+ghost use Rattle.std.specs.Prelude.{◌≡◌, ℕ, ◌<◌, ◌≤◌, ◌↔◌, false, All, IfSome, IsSomeAnd, length, slice_get};
 ghost use Rattle.dp_base.specs.declared.ticks.TheConstants.{LAST, MAX_TICKS};
 ghost use Rattle.std.specs.List.{list_any};
-ghost use Rattle.default_key.specs.Choice.{
-  fallback_of, policy_of,
-  preferred_of,
-  renew_of,
-  takes_over,
-};
+ghost use Rattle.default_key.specs.Choice.{fallback_of, policy_of, preferred_of, renew_of, takes_over};
 ghost use Rattle.default_key.specs.Policy.{HaveDistinctIds, IsFallback, IsFollowed, IsPreferred};
 
 use crate::choice::{Latest, Newest, Oldest, first_of};
@@ -37,14 +20,15 @@ pub struct Policy {
     pub fallback: Option<usize>,
 }
 
-/// The policy of the keys at the moment. Dates are of ticks, and so is `now`. No memory is taken.
+/// The policy of the keys at the moment `now`, in ticks, by the rules of ASP.NET Core's key manager
+/// before version 9: preference, renewal and fallback. It always has an answer, and takes no memory.
 pub fn resolve(keys: &[KeyFacts], now: u64, options: &Options) -> Policy
     requires moment { now ≤ LAST }
     requires dates { All (λ key. key.expiration ≤ MAX_TICKS) keys.now }
     requires ids { HaveDistinctIds keys.now }
     ensures value { result ≡ policy_of keys.now now }
 
-    // The best key or none: where it is dropped no other takes its place.
+    // The best key or none: where it is dropped, no other takes its place.
     ensures preferred { (place : ℕ)
         → (result.preferred ≡ Some place)
         ↔ IsSomeAnd (slice_get keys.now place) (IsPreferred keys.now now) }
@@ -63,7 +47,7 @@ pub fn resolve(keys: &[KeyFacts], now: u64, options: &Options) -> Policy
     }
 }
 
-// The place of the best key, where it is sound and unexpired.
+// The place of the best key, where it is sound and hasn't expired.
 fn preferred_place(keys: &[KeyFacts], now: u64, options: &Options) -> Option<usize>
     requires moment { now ≤ LAST }
     requires ids { HaveDistinctIds keys.now }

@@ -33,6 +33,16 @@ const REVOKED_B: KeyFacts = KeyFacts {
     revoked: true,
 };
 
+// Made and active at day 100, and expired at day 190.
+const C: KeyFacts = KeyFacts {
+    id: KeyId(0x00000000_0000_4000_8000_00000000000c),
+    creation: 638_086_400_000_000_000,
+    activation: 638_086_400_000_000_000,
+    expiration: 638_164_160_000_000_000,
+    usable: true,
+    revoked: false,
+};
+
 // A alone: a new key is due 2 days before it expires.
 #[test]
 fn renewal(rt: HostRuntime) {
@@ -53,6 +63,22 @@ fn renewal(rt: HostRuntime) {
         };
         assert_eq!(rt; resolve(&[A], now, &options), wanted, "at {now}");
     }
+}
+
+// At day 120 the key made last is preferred, and lives on past the next two days.
+#[test]
+fn latest(rt: HostRuntime) {
+    let wanted = Policy {
+        preferred: Some(2),
+        renew: false,
+        fallback: None,
+    };
+    let told = resolve(
+        &[A, REVOKED_B, C],
+        638_103_680_000_000_000,
+        &Options::default(),
+    );
+    assert_eq!(rt; told, wanted);
 }
 
 // Of two keys of one activation the one of the smaller id is preferred.

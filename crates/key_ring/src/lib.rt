@@ -8,3 +8,6 @@ mod listing;
 mod ring;
 
 pub use ring::{KeyState, Ring};
+
+#[cfg(test)]
+mod tests;

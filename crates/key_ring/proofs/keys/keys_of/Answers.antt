@@ -13,7 +13,7 @@ pub loop-element-preserved : goal.loop-element-preserved
 loop-element-preserved c =
     elim c.match-key_in.branch [
       | in-Some+in_ok-put_record w ↦
-        ap (λ v. v.items) w.keys-is ∙ w.in_ok-put_record.ensures ∙ ap (put_record w.in-Some.record.now) c.loop-element.invariant
-        ∙ sym (keys_of-more c.args.elements.now c.loop-element.element-index _ w.in-Some.record.now (omega arith) w.in-Some.ensures)
+          ap (λ v. v.items) w.keys-is ∙ w.in_ok-put_record.ensures ∙ ap (put_record w.in-Some.record.now) c.loop-element.invariant
+          ∙ sym (keys_of-more c.args.elements.now c.loop-element.element-index _ w.in-Some.record.now (omega arith) w.in-Some.ensures)
       | in_default w ↦ absurd (key_in-some _ w.in_default.ensures)
     ]

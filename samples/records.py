@@ -1,0 +1,172 @@
+#!/usr/bin/env python3
+"""Makes a list of records from a readable text, and the text from the list.
+
+    samples/records.py encode < list.txt > list.records
+    samples/records.py decode < list.records > list.txt
+
+The text has one record a line, its words with blanks between them. What follows a # is a comment,
+and lines without a word are skipped. The one form of record is
+
+    key ID created C activates A expires X alg N material M
+
+ID          the key's id in hexadecimal with hyphens, as 0c819c80-6619-4019-9536-53f8aaffee57
+C, A, X     its creation, activation and expiration: ticks of 100 ns since 0001-01-01 UTC in decimal
+            digits, at most 3155378975999999999. A day has 864000000000 ticks
+N           the code of its algorithm, 0 to 255. 1 to 9 can be used
+M           the 64 bytes of its key material in 128 hexadecimal digits, or the word zeros
+
+A list has at most 16384 records. A text or a list that is none is refused by one line on standard
+error and the exit status 1, and nothing is written.
+"""
+
+import re
+import sys
+import uuid
+
+MAX_TICKS = 3155378975999999999
+MAX_RECORDS = 16384
+
+
+class Refused(Exception):
+    """Why a text or a list is none."""
+
+
+class Reader:
+    """Takes the bytes of a list from the front."""
+
+    def __init__(self, data):
+        self.data = data
+        self.place = 0
+
+    def take(self, count):
+        piece = self.data[self.place : self.place + count]
+        if len(piece) < count:
+            raise Refused("the list ends in the middle of it")
+        self.place += count
+        return piece
+
+    def take_number(self, count):
+        return int.from_bytes(self.take(count), "big")
+
+    def take_date(self):
+        ticks = self.take_number(8)
+        if ticks > MAX_TICKS:
+            raise Refused(f"the date {ticks} is above the greatest, {MAX_TICKS}")
+        return ticks
+
+
+def number_of(name, text, most):
+    if not re.fullmatch("0|[1-9][0-9]{0,18}", text) or int(text) > most:
+        raise Refused(f"{name} is {text}, and not a decimal number of at most {most}")
+    return int(text)
+
+
+class Key:
+    """A key record: 106 bytes, numbers big endian, the id in the layout of a .NET Guid."""
+
+    first = 1
+    word = "key"
+    names = ["created", "activates", "expires", "alg", "material"]
+
+    def __init__(self, key_id, creation, activation, expiration, alg, material=bytes(64)):
+        self.key_id = key_id
+        self.creation = creation
+        self.activation = activation
+        self.expiration = expiration
+        self.alg = alg
+        self.material = material
+
+    @classmethod
+    def of_words(cls, words):
+        if len(words) != 12 or words[2::2] != cls.names:
+            raise Refused("a key is 'key ID created C activates A expires X alg N material M'")
+        id_text, material = words[1], words[11]
+        if not re.fullmatch("[0-9a-fA-F]{8}(-[0-9a-fA-F]{4}){3}-[0-9a-fA-F]{12}", id_text):
+            raise Refused(f"{id_text} is no id")
+        if material == "zeros":
+            material = "00" * 64
+        if not re.fullmatch("[0-9a-fA-F]{128}", material):
+            raise Refused("the material is neither 128 hexadecimal digits nor zeros")
+        dates = [number_of(words[at], words[at + 1], MAX_TICKS) for at in (2, 4, 6)]
+        alg = number_of("alg", words[9], 255)
+        return cls(uuid.UUID(id_text), *dates, alg, bytes.fromhex(material))
+
+    @classmethod
+    def of_bytes(cls, reader):
+        key_id = uuid.UUID(bytes_le=reader.take(16))
+        dates = [reader.take_date() for _ in range(3)]
+        return cls(key_id, *dates, reader.take_number(1), reader.take(64))
+
+    def as_text(self):
+        material = self.material.hex() if any(self.material) else "zeros"
+        return (
+            f"key {self.key_id} created {self.creation} activates {self.activation}"
+            f" expires {self.expiration} alg {self.alg} material {material}"
+        )
+
+    def as_bytes(self):
+        dates = [self.creation, self.activation, self.expiration]
+        fields = [self.key_id.bytes_le, *(date.to_bytes(8, "big") for date in dates)]
+        return bytes([self.first, *b"".join(fields), self.alg]) + self.material
+
+
+# The forms of record. Each has the first byte and the first word by which it is known.
+FORMS = [Key]
+
+
+def of_text(text):
+    """The records of a text."""
+    records = []
+    for number, line in enumerate(text.split("\n"), 1):
+        words = line.split("#")[0].split()
+        if not words:
+            continue
+        try:
+            form = next((it for it in FORMS if it.word == words[0]), None)
+            if form is None:
+                raise Refused(f"{words[0]} begins no record")
+            if len(records) == MAX_RECORDS:
+                raise Refused(f"a list has at most {MAX_RECORDS} records")
+            records.append(form.of_words(words))
+        except Refused as why:
+            raise Refused(f"line {number}: {why}")
+    return records
+
+
+def of_list(data):
+    """The records of a list of bytes."""
+    records = []
+    reader = Reader(data)
+    while reader.place < len(data):
+        place = reader.place
+        try:
+            if len(records) == MAX_RECORDS:
+                raise Refused(f"a list has at most {MAX_RECORDS} records")
+            first = reader.take_number(1)
+            form = next((it for it in FORMS if it.first == first), None)
+            if form is None:
+                raise Refused(f"the byte {first} begins no record")
+            records.append(form.of_bytes(reader))
+        except Refused as why:
+            raise Refused(f"record at byte {place}: {why}")
+    return records
+
+
+def main(words):
+    given, taken = sys.stdin.buffer.read, sys.stdout.buffer.write
+    try:
+        if words == ["encode"]:
+            text = given().decode("utf-8")
+            taken(b"".join(record.as_bytes() for record in of_text(text)))
+        elif words == ["decode"]:
+            taken("".join(f"{record.as_text()}\n" for record in of_list(given())).encode())
+        else:
+            raise Refused("give the word encode or the word decode")
+    except (Refused, UnicodeDecodeError) as why:
+        print(f"records.py: {why}", file=sys.stderr)
+        return 1
+    return 0
+
+
+if __name__ == "__main__":
+    sys.exit(main(sys.argv[1:]))

@@ -1,4 +1,7 @@
+pub mod Bytes
 pub mod Columns
 pub mod Facts
 pub mod Products
+pub mod StepLaws
 pub mod Tables
+pub mod Undoing

@@ -16,6 +16,10 @@ pub AreBytes-cons : (x : ℕ) (xs : List ℕ) → x < 256 → AreBytes xs → Ar
 AreBytes-cons x xs h hs zero = h
 AreBytes-cons x xs h hs (suc i) = hs i
 
+pub AreBytes-four : (a b c d : ℕ) → a < 256 → b < 256 → c < 256 → d < 256 → AreBytes (a ∷ b ∷ c ∷ d ∷ [])
+AreBytes-four a b c d ha hb hc hd =
+    AreBytes-cons a (b ∷ c ∷ d ∷ []) ha (AreBytes-cons b (c ∷ d ∷ []) hb (AreBytes-cons c (d ∷ []) hc (AreBytes-cons d [] hd AreBytes-nil)))
+
 pub AreBytes-append : (xs ys : List ℕ) → AreBytes xs → AreBytes ys → AreBytes (xs ++ ys)
 AreBytes-append [] ys hx hy = hy
 AreBytes-append (x ∷ xs) ys hx hy = AreBytes-cons x (xs ++ ys) (hx 0) (AreBytes-append xs ys (λ i. hx (suc i)) hy)

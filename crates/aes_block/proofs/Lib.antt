@@ -3,6 +3,8 @@ pub mod Columns
 pub mod Facts
 pub mod Multiples
 pub mod Products
+pub mod RoundLemmas
+pub mod Schedule
 pub mod StepLaws
 pub mod Tables
 pub mod Undoing

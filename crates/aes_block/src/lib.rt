@@ -3,3 +3,5 @@
 
 mod field;
 mod steps;
+mod expansion;
+mod rounds;

@@ -5,7 +5,7 @@ use Rattle.aes_block.specs.Field.{xtime, times_bits, times, even_power, inverse,
 use Rattle.aes_block.specs.KeyExpansion.{rot_word, sub_word, power_of_x, rcon, added_word, next_word, first_words, key_expansion}
 use Rattle.aes_block.specs.Cipher.{xor_bytes, sub_bytes, shift_rows, mix_columns, add_round_key, rounds, cipher, inv_shift_rows, inv_sub_bytes, inv_mix_columns, inv_rounds, inv_cipher, aes_cipher, aes_decipher}
 use Rattle.std.specs.List.{range_with_len}
-use Rattle.aes_block.proofs.Tables.{same_in_table}
+use Rattle.aes_block.specs.Laws.Tables.{same_in_table}
 
 -- each byte but 0 has a product of 1 with its inverse
 pub times-inverse : (b : ℕ) → b < 255 → times (b + 1) (inverse (b + 1)) ≡ 1

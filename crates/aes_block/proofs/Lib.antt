@@ -1,10 +1,6 @@
-pub mod Bytes
-pub mod Columns
+pub mod Expanded
 pub mod Facts
+pub mod InPlace
 pub mod Multiples
-pub mod Products
 pub mod RoundLemmas
 pub mod Schedule
-pub mod StepLaws
-pub mod Tables
-pub mod Undoing

@@ -3,7 +3,7 @@ use Rattle.std.proofs.Common.{◌≡◌, ℕ, suc, ◌*◌, ◌/◌, ◌%◌, �
 use Rattle.std.specs.Prelude.{bit_xor}
 use lib.Bits.{xor_zero_r}
 use Rattle.aes_block.specs.Field.{xtime, times_bits, times}
-use Rattle.aes_block.proofs.Tables.{same_in_table}
+use Rattle.aes_block.specs.Laws.Tables.{same_in_table}
 
 pub xtime_short : (b : ℕ) → b < 256 → bit_xor (b * 2 % 256) (b / 128 * 27) ≡ xtime b
 unfolding xtime

@@ -7,7 +7,7 @@ use Rattle.std.proofs.lemmas.List.{append_assoc, flat_map_more, get_or-take, len
 use Rattle.std.proofs.lemmas.Nat.{be_bytes_4}
 use Rattle.dp_base.specs.Blocks.{AreBytes}
 use Rattle.aes_block.specs.KeyExpansion.{IsKeyLength, added_word, first_words, key_words, next_word}
-use Rattle.aes_block.proofs.Bytes.{AreBytes-four}
+use Rattle.aes_block.specs.Laws.Bytes.{AreBytes-four}
 
 -- a key has 4 to 8 words
 pub key_words-some : (key : List ℕ) → IsKeyLength (length key) → 4 ≤ key_words key

@@ -1,7 +1,10 @@
 //! AES, the block cipher of FIPS 197, under keys of 16, 24 and 32 bytes.
 #![tactic(auto)]
 
-mod field;
-mod steps;
+mod aes;
 mod expansion;
+mod field;
 mod rounds;
+mod steps;
+
+pub use aes::{Aes, BadKeyLength};

@@ -1,7 +1,7 @@
 use Rattle.std.proofs.Common.{◌≡◌, ◌+◌, ◌-◌, ◌∙◌, ap, arith}
 use Rattle.aes_block.specs.Field.{xtime}
 use Rattle.aes_block.specs.KeyExpansion.{power_of_x, rcon}
-use Rattle.aes_block.proofs.Tables.{slice_index-table_of}
+use Rattle.aes_block.specs.Laws.Tables.{slice_index-table_of}
 use Rattle.aes_block.proofs.expansion.rcon.Goals as goal
 
 pub returns : goal.returns

@@ -1,7 +1,7 @@
 use Rattle.std.proofs.Common.{arith}
 use Rattle.aes_block.specs.Field.{inv_sub_byte}
 use Rattle.aes_block.specs.Cipher.{inv_sub_bytes}
-use Rattle.aes_block.proofs.Bytes.{map_all_here, map_more_here}
+use Rattle.aes_block.proofs.InPlace.{map_all_here, map_more_here}
 use Rattle.aes_block.proofs.steps.inv_sub_bytes.Goals as goal
 
 pub loop-b-preserved : goal.loop-b-preserved

@@ -6,9 +6,9 @@ use Rattle.std.specs.List.{range_with_len}
 use Rattle.dp_base.specs.Blocks.{AreBytes, IsBlock}
 use Rattle.aes_block.specs.Field.{xtime, times_bits, times, even_power, inverse, affine, sub_byte, inv_affine, inv_sub_byte}
 use Rattle.aes_block.specs.Cipher.{byte_at, product_at, state_of, sub_bytes, shift_rows, mix_columns, round_key, add_round_key, inv_shift_rows, inv_sub_bytes, inv_mix_columns}
-use Rattle.aes_block.proofs.Bytes.{AreBytes-append, AreBytes-map, AreBytes-map_all, AreBytes-to_be_bytes, AreBytes-xor_bytes, length-xor_bytes, listed, map-map, xor_bytes-xor_bytes}
-use Rattle.aes_block.proofs.Columns.{Undoes, first_of, first_of-first_of, first_of-lt, remixes, unmixes}
-use Rattle.aes_block.proofs.Tables.{same_in_table}
+use Rattle.aes_block.specs.Laws.Bytes.{AreBytes-append, AreBytes-map, AreBytes-map_all, AreBytes-to_be_bytes, AreBytes-xor_bytes, length-xor_bytes, listed, map-map, xor_bytes-xor_bytes}
+use Rattle.aes_block.specs.Laws.Columns.{Undoes, first_of, first_of-first_of, first_of-lt, remixes, unmixes}
+use Rattle.aes_block.specs.Laws.Tables.{same_in_table}
 
 -- ---- SubBytes
 

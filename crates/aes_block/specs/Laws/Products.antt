@@ -4,7 +4,7 @@ use Rattle.std.specs.Prelude.{bit_xor, if◌then◌else◌}
 use Rattle.std.proofs.lemmas.Nat.{xor_comm, xor_lt, xor_shr, xor_block}
 use lib.Bits.{xor_assoc}
 use Rattle.aes_block.specs.Field.{xtime, times_bits, times}
-use Rattle.aes_block.proofs.Tables.{same_in_table}
+use Rattle.aes_block.specs.Laws.Tables.{same_in_table}
 
 -- the two in the middle change places
 pub xor_swap : (a b c d : ℕ) → bit_xor (bit_xor a b) (bit_xor c d) ≡ bit_xor (bit_xor a c) (bit_xor b d)

@@ -4,8 +4,8 @@ use Rattle.std.specs.Prelude.{bit_xor}
 use Rattle.std.proofs.lemmas.Nat.{xor_comm, xor_lt}
 use lib.Bits.{xor_assoc, xor_zero_r}
 use Rattle.aes_block.specs.Field.{xtime, times_bits, times}
-use Rattle.aes_block.proofs.Products.{xor_swap, times-xor, times-lt}
-use Rattle.aes_block.proofs.Tables.{same_in_table}
+use Rattle.aes_block.specs.Laws.Products.{xor_swap, times-xor, times-lt}
+use Rattle.aes_block.specs.Laws.Tables.{same_in_table}
 
 -- the sum of four bytes
 abbrev pub sum4 : ℕ → ℕ → ℕ → ℕ → ℕ

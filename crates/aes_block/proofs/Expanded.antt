@@ -77,7 +77,7 @@ key_of-schedule key words sized bytes held =
     let whole = key_length key sized in
     ap (λ (k : ℕ). flat_map (to_be_bytes w32) (take k words)) at
     ∙ ap (flat_map (to_be_bytes w32))
-      (sym (take-take n (4 * (round_count key + 1)) words (omega arith)) ∙ ap (take n) held ∙ take-first_words key n (4 * (round_count key + 1)) (omega arith))
+    (sym (take-take n (4 * (round_count key + 1)) words (omega arith)) ∙ ap (take n) held ∙ take-first_words key n (4 * (round_count key + 1)) (omega arith))
     ∙ flat_map-first_words key n bytes (omega arith)
     ∙ take_all (4 * n) key (omega arith)
 

@@ -56,7 +56,7 @@ next_word-take key words i some = elim (cases_lt i (key_words key)) [
   | inr later ↦
       next_word-later key (take i words) i later
       ∙ rw (get_or-take i words (i - key_words key) 0 (omega arith), get_or-take i words (i - 1) 0 (omega arith))
-          (sym (next_word-later key words i later))
+      (sym (next_word-later key words i later))
 ]
 
 -- the words before i are the schedule's, and so is the next one
@@ -82,7 +82,7 @@ flat_map-first_words key (suc n) bytes h =
     let four : List ℕ = at (4 * n) ∷ at (4 * n + 1) ∷ at (4 * n + 2) ∷ at (4 * n + 3) ∷ [] in
     let fours : AreBytes four = AreBytes-four (at (4 * n)) (at (4 * n + 1)) (at (4 * n + 2)) (at (4 * n + 3)) (bytes (4 * n)) (bytes (4 * n + 1)) (bytes (4 * n + 2)) (bytes (4 * n + 3)) in
     let word : to_be_bytes w32 (next_word key words n) ≡ four =
-        be_bytes_4 four (next_word key words n) refl fours (next_word-first key words n (omega arith)) in
+    be_bytes_4 four (next_word key words n) refl fours (next_word-first key words n (omega arith)) in
     sym (flat_map_more (to_be_bytes w32) [] words (next_word key words n))
     ∙ (λ i. flat_map-first_words key n bytes (omega arith) i ++ word i)
     ∙ sym (take_four key (4 * n) (4 * n + 1) (4 * n + 2) (4 * n + 3) (4 * suc n) refl (omega arith) (omega arith) (omega arith) (omega arith))

@@ -45,7 +45,7 @@ unfoldable pub next_word : List ℕ → List ℕ → ℕ → ℕ
 next_word key words i =
     let nk = key_words key in
     if nat_lt i nk then from_be_bytes w32 (slice_index key (4 * i) ∷ slice_index key (4 * i + 1)
-        ∷ slice_index key (4 * i + 2) ∷ slice_index key (4 * i + 3) ∷ [])
+    ∷ slice_index key (4 * i + 2) ∷ slice_index key (4 * i + 3) ∷ [])
     else bit_xor (slice_index words (i - nk)) (added_word nk i (slice_index words (i - 1)))
 
 -- the first n words of the schedule of a key (5.2)

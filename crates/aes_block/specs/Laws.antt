@@ -5,7 +5,6 @@ pub mod Products
 pub mod Steps
 pub mod Tables
 pub mod Undoing
-
 use Rattle.std.proofs.Common.{◌≡◌, List, ℕ}
 use Rattle.dp_base.specs.Blocks.{IsBlock}
 use Rattle.aes_block.specs.Cipher.{aes_cipher, aes_decipher}

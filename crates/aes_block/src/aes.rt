@@ -3,11 +3,10 @@
 ghost use Rattle.std.specs.Prelude.{◌≡◌, ◌↔◌, length, IsOk, IfOk};
 ghost use Rattle.aes_block.specs.KeyExpansion.{IsKeyLength};
 
-use dp_base::BlockCipher;
-use std::marker::Model;
-
 use crate::expansion::expand;
 use crate::rounds::{decipher, encipher};
+use dp_base::BlockCipher;
+use std::marker::Model;
 
 /// The length of a key isn't 16, 24 or 32 bytes.
 #[derive(Clone, Copy, Debug, PartialEq, Eq)]

@@ -6,5 +6,7 @@ mod expansion;
 mod field;
 mod rounds;
 mod steps;
+#[cfg(test)]
+mod tests;
 
 pub use aes::{Aes, BadKeyLength};

@@ -4,7 +4,8 @@ ghost use Rattle.std.specs.Prelude.{◌≡◌, ◌<◌, ◌≤◌};
 ghost use Rattle.aes_block.specs.Cipher.{cipher, inv_cipher};
 
 use crate::steps::{
-    add_round_key, inv_mix_columns, inv_shift_rows, inv_sub_bytes, mix_columns, shift_rows, sub_bytes,
+    add_round_key, inv_mix_columns, inv_shift_rows, inv_sub_bytes, mix_columns, shift_rows,
+    sub_bytes,
 };
 
 // Enciphers a block in so many rounds.
@@ -22,6 +23,7 @@ pub(crate) fn encipher(block: &mut [u8; 16], words: &[u32; 60], count: usize)
     }
     sub_bytes(block);
     shift_rows(block);
+    // The last round has no MixColumns.
     add_round_key(block, words, count);
 }
 

@@ -62,12 +62,12 @@ first_of-first_of p0 p1 p2 p3 q0 q1 q2 q3 u s0 s1 s2 s3 h0 h1 h2 h3 =
     let t : ℕ → ℕ → ℕ = times in
     let r0 = times-sum4 p0 (t q0 s0) (t q1 s3) (t q2 s2) (t q3 s1) (times-lt q0 s0 h0) (times-lt q1 s3 h3) (times-lt q2 s2 h2) (times-lt q3 s1 h1) in
     let r1 = times-sum4 p1 (t q0 s3) (t q1 s2) (t q2 s1) (t q3 s0) (times-lt q0 s3 h3) (times-lt q1 s2 h2) (times-lt q2 s1 h1) (times-lt q3 s0 h0)
-        ∙ sym (sum4_turn (t p1 (t q3 s0)) (t p1 (t q0 s3)) (t p1 (t q1 s2)) (t p1 (t q2 s1))) in
+    ∙ sym (sum4_turn (t p1 (t q3 s0)) (t p1 (t q0 s3)) (t p1 (t q1 s2)) (t p1 (t q2 s1))) in
     let r2 = times-sum4 p2 (t q0 s2) (t q1 s1) (t q2 s0) (t q3 s3) (times-lt q0 s2 h2) (times-lt q1 s1 h1) (times-lt q2 s0 h0) (times-lt q3 s3 h3)
-        ∙ sum4_turn (t p2 (t q0 s2)) (t p2 (t q1 s1)) (t p2 (t q2 s0)) (t p2 (t q3 s3))
-        ∙ sum4_turn (t p2 (t q1 s1)) (t p2 (t q2 s0)) (t p2 (t q3 s3)) (t p2 (t q0 s2)) in
+    ∙ sum4_turn (t p2 (t q0 s2)) (t p2 (t q1 s1)) (t p2 (t q2 s0)) (t p2 (t q3 s3))
+    ∙ sum4_turn (t p2 (t q1 s1)) (t p2 (t q2 s0)) (t p2 (t q3 s3)) (t p2 (t q0 s2)) in
     let r3 = times-sum4 p3 (t q0 s1) (t q1 s0) (t q2 s3) (t q3 s2) (times-lt q0 s1 h1) (times-lt q1 s0 h0) (times-lt q2 s3 h3) (times-lt q3 s2 h2)
-        ∙ sum4_turn (t p3 (t q0 s1)) (t p3 (t q1 s0)) (t p3 (t q2 s3)) (t p3 (t q3 s2)) in
+    ∙ sum4_turn (t p3 (t q0 s1)) (t p3 (t q1 s0)) (t p3 (t q2 s3)) (t p3 (t q3 s2)) in
     (λ i. sum4 (r0 i) (r1 i) (r2 i) (r3 i))
     ∙ sum4_across
     (t p0 (t q0 s0)) (t p0 (t q1 s3)) (t p0 (t q2 s2)) (t p0 (t q3 s1))

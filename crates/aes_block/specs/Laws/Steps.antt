@@ -80,13 +80,13 @@ products-products : (p0 p1 p2 p3 q0 q1 q2 q3 : ℕ) → Undoes p0 p1 p2 p3 q0 q1
 products-products p0 p1 p2 p3 q0 q1 q2 q3 u s h =
     let at : ℕ → ℕ = λ i. slice_index s i in
     let one : (i j k l : ℕ) → first_of p0 p1 p2 p3 (first_of q0 q1 q2 q3 (at i) (at l) (at k) (at j)) (first_of q0 q1 q2 q3 (at l) (at k) (at j) (at i))
-        (first_of q0 q1 q2 q3 (at k) (at j) (at i) (at l)) (first_of q0 q1 q2 q3 (at j) (at i) (at l) (at k)) ≡ at i =
-        λ i j k l. first_of-first_of p0 p1 p2 p3 q0 q1 q2 q3 u (at i) (at j) (at k) (at l) (h.1 i) (h.1 j) (h.1 k) (h.1 l) in
+    (first_of q0 q1 q2 q3 (at k) (at j) (at i) (at l)) (first_of q0 q1 q2 q3 (at j) (at i) (at l) (at k)) ≡ at i =
+    λ i j k l. first_of-first_of p0 p1 p2 p3 q0 q1 q2 q3 u (at i) (at j) (at k) (at l) (h.1 i) (h.1 j) (h.1 k) (h.1 l) in
     (λ i.
-      one 0 1 2 3 i ∷ one 1 2 3 0 i ∷ one 2 3 0 1 i ∷ one 3 0 1 2 i
-      ∷ one 4 5 6 7 i ∷ one 5 6 7 4 i ∷ one 6 7 4 5 i ∷ one 7 4 5 6 i
-      ∷ one 8 9 10 11 i ∷ one 9 10 11 8 i ∷ one 10 11 8 9 i ∷ one 11 8 9 10 i
-      ∷ one 12 13 14 15 i ∷ one 13 14 15 12 i ∷ one 14 15 12 13 i ∷ one 15 12 13 14 i ∷ [])
+    one 0 1 2 3 i ∷ one 1 2 3 0 i ∷ one 2 3 0 1 i ∷ one 3 0 1 2 i
+    ∷ one 4 5 6 7 i ∷ one 5 6 7 4 i ∷ one 6 7 4 5 i ∷ one 7 4 5 6 i
+    ∷ one 8 9 10 11 i ∷ one 9 10 11 8 i ∷ one 10 11 8 9 i ∷ one 11 8 9 10 i
+    ∷ one 12 13 14 15 i ∷ one 13 14 15 12 i ∷ one 14 15 12 13 i ∷ one 15 12 13 14 i ∷ [])
     ∙ listed 16 s h.0
 
 pub IsBlock-mix_columns : (s : List ℕ) → IsBlock s → IsBlock (mix_columns s)

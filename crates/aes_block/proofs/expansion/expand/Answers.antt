@@ -12,11 +12,10 @@ pub loop-i-preserved : goal.loop-i-preserved
 loop-i-preserved c =
     let key = c.args.key.now in
     let long = c.loop-i.invariant.0 in
-    let few = key_words-few key c.requires in
-    (
+    let few = key_words-few key c.requires in (
       length-set c.loop-i.words c.loop-i.i c.next_word.result ∙ long,
       rw c.next_word.ensures
-      (first_words_more key c.loop-i.words c.loop-i.i (omega (arith, key_words-some key c.requires)) (omega arith) c.loop-i.invariant.1),
+          (first_words_more key c.loop-i.words c.loop-i.i (omega (arith, key_words-some key c.requires)) (omega arith) c.loop-i.invariant.1),
     )
 
 pub returns : goal.returns

@@ -4,4 +4,6 @@ use Rattle.aes_block.proofs.steps.mix_columns.Goals as goal
 
 pub returns : goal.returns
 unfolding mix_columns
-returns c = rw (c.mix_column-a.ensures, c.mix_column-b.ensures, c.mix_column-c.ensures, c.mix_column-d.ensures) refl
+returns c =
+    rw (c.from_columns.ensures, c.mix_column-a.ensures, c.mix_column-b.ensures, c.mix_column-c.ensures, c.mix_column-d.ensures)
+    refl

@@ -1,5 +1,5 @@
 -- The code's short forms of the products with a constant, as tests over the whole table of bytes.
-use Rattle.std.proofs.Common.{◌≡◌, ℕ, suc, ◌*◌, ◌/◌, ◌%◌, ◌<◌, refl}
+use Rattle.std.proofs.Common.{◌≡◌, ℕ, ◌*◌, ◌/◌, ◌%◌, ◌<◌, refl}
 use Rattle.std.specs.Prelude.{bit_xor}
 use lib.Bits.{xor_zero_r}
 use Rattle.aes_block.specs.Field.{xtime, times_bits, times}

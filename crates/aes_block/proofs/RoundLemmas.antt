@@ -1,5 +1,5 @@
 -- One more round of the cipher and of its inverse.
-use Rattle.std.proofs.Common.{◌≡◌, ℕ, zero, suc, ◌-◌, List, refl}
+use Rattle.std.proofs.Common.{◌≡◌, ℕ, suc, List, refl}
 use Rattle.aes_block.specs.Cipher.{sub_bytes, shift_rows, mix_columns, add_round_key, rounds, inv_shift_rows, inv_sub_bytes, inv_mix_columns, inv_rounds}
 
 pub rounds_step : (b w : List ℕ) (before r : ℕ) → r ≡ suc before

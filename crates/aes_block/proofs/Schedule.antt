@@ -1,9 +1,9 @@
 -- The schedule of a key: each word from the words before it, and the key in its first words.
-use Rattle.std.proofs.Common.{◌≡◌, ℕ, zero, suc, ◌+◌, ◌-◌, ◌*◌, ◌/◌, ◌<◌, ◌≤◌, List, [], ◌∷◌, ◌++◌, length, set, take, slice_index, bit_xor, refl, sym, ap, ◌∙◌, add-one, arith, inl, inr, le-ltb, lt-ltb}
+use Rattle.std.proofs.Common.{◌≡◌, ℕ, zero, suc, ◌+◌, ◌-◌, ◌*◌, ◌<◌, ◌≤◌, List, [], ◌∷◌, ◌++◌, length, set, take, slice_index, bit_xor, refl, sym, ◌∙◌, add-one, arith, inl, inr, le-ltb, lt-ltb}
 use Rattle.std.specs.Int.{w32, from_be_bytes, to_be_bytes}
 use Rattle.std.specs.List.{flat_map}
 use Rattle.std.proofs.lemmas.Bool.{cases_lt}
-use Rattle.std.proofs.lemmas.List.{append_assoc, flat_map_more, get_or-take, length_push, take-append-le, take-take, take_all, take_more, take_more_set}
+use Rattle.std.proofs.lemmas.List.{append_assoc, flat_map_more, get_or-take, length_push, take-append-le, take_all, take_more, take_more_set}
 use Rattle.std.proofs.lemmas.Nat.{be_bytes_4}
 use Rattle.dp_base.specs.Blocks.{AreBytes}
 use Rattle.aes_block.specs.KeyExpansion.{IsKeyLength, added_word, first_words, key_words, next_word}

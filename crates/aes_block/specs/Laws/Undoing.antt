@@ -1,5 +1,5 @@
 -- The inverse cipher undoes the cipher, and the cipher undoes the inverse cipher, under every schedule.
-use Rattle.std.proofs.Common.{◌≡◌, ℕ, zero, suc, ◌-◌, List, refl, sym, ap, ◌∙◌}
+use Rattle.std.proofs.Common.{◌≡◌, ℕ, zero, suc, ◌-◌, List, refl, ap, ◌∙◌}
 use Rattle.dp_base.specs.Blocks.{IsBlock}
 use Rattle.aes_block.specs.Cipher.{sub_bytes, shift_rows, mix_columns, add_round_key, rounds, cipher, inv_shift_rows, inv_sub_bytes, inv_mix_columns, inv_rounds, inv_cipher}
 use Rattle.aes_block.specs.Laws.Steps.{IsBlock-sub_bytes, IsBlock-shift_rows, IsBlock-mix_columns, IsBlock-add_round_key, IsBlock-inv_sub_bytes, IsBlock-inv_shift_rows, IsBlock-inv_mix_columns, inv_sub_bytes-sub_bytes, sub_bytes-inv_sub_bytes, inv_shift_rows-shift_rows, shift_rows-inv_shift_rows, inv_mix_columns-mix_columns, mix_columns-inv_mix_columns, add_round_key-add_round_key}

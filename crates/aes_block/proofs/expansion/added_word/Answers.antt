@@ -1,4 +1,4 @@
-use Rattle.std.proofs.Common.{◌≡◌, refl, arith}
+use Rattle.std.proofs.Common.{arith}
 use Rattle.std.proofs.lemmas.Bool.Decides.{nat_tests}
 use Rattle.aes_block.specs.KeyExpansion.{added_word, rot_word}
 use Rattle.aes_block.proofs.expansion.added_word.Goals as goal

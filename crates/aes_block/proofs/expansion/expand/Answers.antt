@@ -1,6 +1,6 @@
-use Rattle.std.proofs.Common.{◌≡◌, ◌+◌, ◌*◌, ◌<◌, length, ap, ◌∙◌, arith, refl}
+use Rattle.std.proofs.Common.{◌≡◌, ◌+◌, ◌*◌, ◌∙◌, arith, refl}
 use Rattle.std.proofs.lemmas.List.{length-set}
-use Rattle.aes_block.specs.KeyExpansion.{first_words, key_expansion, key_words, round_count}
+use Rattle.aes_block.specs.KeyExpansion.{first_words, key_expansion, round_count}
 use Rattle.aes_block.proofs.Schedule.{first_words_more, key_words-few, key_words-some}
 use Rattle.aes_block.proofs.expansion.expand.Goals as goal
 

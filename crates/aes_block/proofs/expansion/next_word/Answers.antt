@@ -1,4 +1,4 @@
-use Rattle.std.proofs.Common.{◌∙◌, refl, sym}
+use Rattle.std.proofs.Common.{◌∙◌, sym}
 use Rattle.aes_block.proofs.Schedule.{next_word-first, next_word-later}
 use Rattle.aes_block.proofs.expansion.next_word.Goals as goal
 

@@ -1,4 +1,4 @@
-use Rattle.std.proofs.Common.{◌≡◌, refl}
+use Rattle.std.proofs.Common.{refl}
 use Rattle.aes_block.specs.KeyExpansion.{sub_word}
 use Rattle.aes_block.proofs.expansion.sub_word.Goals as goal
 

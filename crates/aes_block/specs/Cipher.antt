@@ -7,8 +7,8 @@ use Rattle.aes_block.specs.Field.{times, sub_byte, inv_sub_byte}
 use Rattle.aes_block.specs.KeyExpansion.{key_expansion, round_count}
 
 -- the byte in row r of column c (3.4)
-abbrev pub byte_at : List ℕ → ℕ → ℕ → ℕ
-byte_at s r c = slice_index s (r + 4 * c)
+abbrev pub state_byte : List ℕ → ℕ → ℕ → ℕ
+state_byte s r c = slice_index s (r + 4 * c)
 
 -- the state with f r c in row r of column c
 abbrev pub state_of : (ℕ → ℕ → ℕ) → List ℕ
@@ -25,14 +25,14 @@ sub_bytes s = map sub_byte s
 
 -- ShiftRows: row r goes r places to the left (5.1.2)
 unfoldable pub shift_rows : List ℕ → List ℕ
-shift_rows s = state_of (λ r c. byte_at s r ((c + r) % 4))
+shift_rows s = state_of (λ r c. state_byte s r ((c + r) % 4))
 
 -- coefficient r of the product of the polynomial a0 + a1 x + a2 x^2 + a3 x^3 and that of column c,
 -- modulo x^4 + 1 (5.1.3)
 abbrev pub product_at : ℕ → ℕ → ℕ → ℕ → List ℕ → ℕ → ℕ → ℕ
 product_at a0 a1 a2 a3 s r c =
-    bit_xor (bit_xor (times a0 (byte_at s r c)) (times a1 (byte_at s ((r + 3) % 4) c)))
-    (bit_xor (times a2 (byte_at s ((r + 2) % 4) c)) (times a3 (byte_at s ((r + 1) % 4) c)))
+    bit_xor (bit_xor (times a0 (state_byte s r c)) (times a1 (state_byte s ((r + 3) % 4) c)))
+    (bit_xor (times a2 (state_byte s ((r + 2) % 4) c)) (times a3 (state_byte s ((r + 1) % 4) c)))
 
 -- MixColumns: each column times 3 x^3 + x^2 + x + 2 (5.1.3)
 unfoldable pub mix_columns : List ℕ → List ℕ
@@ -58,7 +58,7 @@ cipher block nr w = add_round_key (shift_rows (sub_bytes (rounds block w (nr - 1
 
 -- InvShiftRows: row r goes r places to the right (5.3.1)
 unfoldable pub inv_shift_rows : List ℕ → List ℕ
-inv_shift_rows s = state_of (λ r c. byte_at s r ((c + 4 - r) % 4))
+inv_shift_rows s = state_of (λ r c. state_byte s r ((c + 4 - r) % 4))
 
 -- InvSubBytes (5.3.2)
 unfoldable pub inv_sub_bytes : List ℕ → List ℕ

@@ -11,6 +11,7 @@ use Rattle.aes_block.specs.Cipher.{aes_cipher, aes_decipher}
 use Rattle.aes_block.specs.KeyExpansion.{key_expansion, round_count}
 use Rattle.aes_block.specs.Laws.Undoing.{IsBlock-cipher, IsBlock-inv_cipher, cipher-inv_cipher, inv_cipher-cipher}
 
+-- a block becomes a block, both ways
 pub IsBlock-aes_cipher : (key b : List ℕ) → IsBlock b → IsBlock (aes_cipher key b)
 unfolding aes_cipher
 IsBlock-aes_cipher key b h = IsBlock-cipher (key_expansion key) b (round_count key) h
@@ -19,6 +20,7 @@ pub IsBlock-aes_decipher : (key b : List ℕ) → IsBlock b → IsBlock (aes_dec
 unfolding aes_decipher
 IsBlock-aes_decipher key b h = IsBlock-inv_cipher (key_expansion key) b (round_count key) h
 
+-- each undoes the other, under every key
 pub aes_decipher-aes_cipher : (key b : List ℕ) → IsBlock b → aes_decipher key (aes_cipher key b) ≡ b
 unfolding aes_cipher aes_decipher
 aes_decipher-aes_cipher key b h = inv_cipher-cipher (key_expansion key) b (round_count key) h

@@ -1,4 +1,4 @@
-//! The example vectors of FIPS 197, appendix C.
+//! The example vectors of FIPS 197 (2001, appendix C).
 
 use crate::{Aes, BadKeyLength};
 use dp_base::BlockCipher;
@@ -41,6 +41,7 @@ fn vectors(rt: HostRuntime) -> Result<(), Fail> {
     ];
     for (key, enciphered) in cases {
         let aes = Aes::new(key)?;
+        is_shared(&aes);
         let mut block = PLAIN;
         aes.encrypt_block(&mut block);
         assert_eq!(rt; block, enciphered, "enciphered under {} bytes", key.len());
@@ -49,6 +50,9 @@ fn vectors(rt: HostRuntime) -> Result<(), Fail> {
     }
     Ok(())
 }
+
+// Threads may share a cipher.
+fn is_shared<T: Send + Sync>(_: &T) {}
 
 #[test]
 fn other_lengths_are_refused(rt: HostRuntime) {

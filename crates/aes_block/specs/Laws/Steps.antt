@@ -5,13 +5,14 @@ use Rattle.std.specs.Int.{w32, to_be_bytes}
 use Rattle.std.specs.List.{range_with_len}
 use Rattle.dp_base.specs.Blocks.{AreBytes, IsBlock}
 use Rattle.aes_block.specs.Field.{xtime, times_bits, times, even_power, inverse, affine, sub_byte, inv_affine, inv_sub_byte}
-use Rattle.aes_block.specs.Cipher.{byte_at, product_at, state_of, sub_bytes, shift_rows, mix_columns, round_key, add_round_key, inv_shift_rows, inv_sub_bytes, inv_mix_columns}
+use Rattle.aes_block.specs.Cipher.{state_byte, product_at, state_of, sub_bytes, shift_rows, mix_columns, round_key, add_round_key, inv_shift_rows, inv_sub_bytes, inv_mix_columns}
 use Rattle.aes_block.specs.Laws.Bytes.{AreBytes-append, AreBytes-map, AreBytes-map_all, AreBytes-to_be_bytes, AreBytes-xor_bytes, length-xor_bytes, listed, map-map, xor_bytes-xor_bytes}
 use Rattle.aes_block.specs.Laws.Columns.{Undoes, first_of, first_of-first_of, first_of-lt, remixes, unmixes}
 use Rattle.aes_block.specs.Laws.Tables.{same_in_table}
 
 -- ---- SubBytes
 
+-- tests over all 256 bytes
 inv_sub_byte-sub_byte : (b : ℕ) → b < 256 → inv_sub_byte (sub_byte b) ≡ b
 unfolding xtime times_bits times even_power inverse affine sub_byte inv_affine inv_sub_byte
 inv_sub_byte-sub_byte b h = same_in_table (λ b. inv_sub_byte (sub_byte b)) (λ b. b) 256 refl b h
@@ -47,16 +48,17 @@ sub_bytes-inv_sub_bytes s h = map-map inv_sub_byte sub_byte sub_byte-inv_sub_byt
 
 -- ---- ShiftRows
 
+-- all places of a state of bytes are bytes
 IsBlock-state_of : (f : ℕ → ℕ → ℕ) → ((r c : ℕ) → f r c < 256) → IsBlock (state_of f)
 IsBlock-state_of f h = (refl, AreBytes-map_all (λ i. f (i % 4) (i / 4)) (λ i. h (i % 4) (i / 4)) (range_with_len 0 16))
 
 pub IsBlock-shift_rows : (s : List ℕ) → IsBlock s → IsBlock (shift_rows s)
 unfolding shift_rows
-IsBlock-shift_rows s h = IsBlock-state_of (λ r c. byte_at s r ((c + r) % 4)) (λ r c. h.1 (r + 4 * ((c + r) % 4)))
+IsBlock-shift_rows s h = IsBlock-state_of (λ r c. state_byte s r ((c + r) % 4)) (λ r c. h.1 (r + 4 * ((c + r) % 4)))
 
 pub IsBlock-inv_shift_rows : (s : List ℕ) → IsBlock s → IsBlock (inv_shift_rows s)
 unfolding inv_shift_rows
-IsBlock-inv_shift_rows s h = IsBlock-state_of (λ r c. byte_at s r ((c + 4 - r) % 4)) (λ r c. h.1 (r + 4 * ((c + 4 - r) % 4)))
+IsBlock-inv_shift_rows s h = IsBlock-state_of (λ r c. state_byte s r ((c + 4 - r) % 4)) (λ r c. h.1 (r + 4 * ((c + 4 - r) % 4)))
 
 pub inv_shift_rows-shift_rows : (s : List ℕ) → IsBlock s → inv_shift_rows (shift_rows s) ≡ s
 unfolding shift_rows inv_shift_rows
@@ -71,7 +73,7 @@ shift_rows-inv_shift_rows s h = listed 16 s h.0
 IsBlock-products : (p0 p1 p2 p3 : ℕ) (s : List ℕ) → IsBlock s → IsBlock (state_of (product_at p0 p1 p2 p3 s))
 IsBlock-products p0 p1 p2 p3 s h =
     IsBlock-state_of (product_at p0 p1 p2 p3 s) (λ r c.
-    first_of-lt p0 p1 p2 p3 (byte_at s r c) (byte_at s ((r + 3) % 4) c) (byte_at s ((r + 2) % 4) c) (byte_at s ((r + 1) % 4) c)
+    first_of-lt p0 p1 p2 p3 (state_byte s r c) (state_byte s ((r + 3) % 4) c) (state_byte s ((r + 2) % 4) c) (state_byte s ((r + 1) % 4) c)
     (h.1 (r + 4 * c)) (h.1 ((r + 3) % 4 + 4 * c)) (h.1 ((r + 2) % 4 + 4 * c)) (h.1 ((r + 1) % 4 + 4 * c)))
 
 -- the products with p of the products with q, over all columns

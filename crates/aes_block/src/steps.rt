@@ -71,7 +71,8 @@ fn mix_byte(a: u8, b: u8, c: u8, d: u8) -> u8
 
 // A column of MixColumns. Each further byte is the first one of the column turned up by one.
 fn mix_column(a: u8, b: u8, c: u8, d: u8) -> [u8; 4]
-    ensures { result ≡ map (λ r. product_at 2 1 1 3 (a ∷ b ∷ c ∷ d ∷ []) r 0) (0 ∷ 1 ∷ 2 ∷ 3 ∷ []) }
+    ensures { result ≡ map (λ r. product_at 2 1 1 3 (a ∷ b ∷ c ∷ d ∷ []) r 0)
+        (0 ∷ 1 ∷ 2 ∷ 3 ∷ []) }
 {
     [
         mix_byte(a, b, c, d),
@@ -102,7 +103,8 @@ fn inv_mix_byte(a: u8, b: u8, c: u8, d: u8) -> u8
 
 // A column of InvMixColumns.
 fn inv_mix_column(a: u8, b: u8, c: u8, d: u8) -> [u8; 4]
-    ensures { result ≡ map (λ r. product_at 14 9 13 11 (a ∷ b ∷ c ∷ d ∷ []) r 0) (0 ∷ 1 ∷ 2 ∷ 3 ∷ []) }
+    ensures { result ≡ map (λ r. product_at 14 9 13 11 (a ∷ b ∷ c ∷ d ∷ []) r 0)
+        (0 ∷ 1 ∷ 2 ∷ 3 ∷ []) }
 {
     [
         inv_mix_byte(a, b, c, d),

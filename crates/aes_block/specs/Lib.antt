@@ -1,0 +1,5 @@
+pub mod Aes
+pub mod Cipher
+pub mod Field
+pub mod KeyExpansion
+pub mod Laws

@@ -1,0 +1,76 @@
+//! AES under a key.
+
+ghost use Rattle.std.specs.Prelude.{◌≡◌, ◌↔◌, length, IsOk, IfOk};
+ghost use Rattle.aes_block.specs.KeyExpansion.{IsKeyLength};
+
+use crate::expansion::expand;
+use crate::rounds::{decipher, encipher};
+use dp_base::BlockCipher;
+use std::marker::Model;
+
+/// The length of a key isn't 16, 24 or 32 bytes.
+#[derive(Clone, Copy, Debug, PartialEq, Eq)]
+pub struct BadKeyLength;
+
+/// AES under one key (FIPS 197), which is expanded once.
+#[derive(Drop)]
+pub struct Aes {
+    // The schedule of the key, in front of words that no round takes.
+    words: [u32; 60],
+    // The rounds: 10, 12 or 14.
+    count: usize,
+}
+
+// Clauses see the bytes of the key.
+impl Model for Aes {
+    ghost use Rattle.std.specs.Prelude.{ℕ, List};
+    ghost use Rattle.aes_block.specs.Aes.{IsExpanded, key_of};
+
+    ghost Value = { List ℕ };
+
+    ghost view = { λ a. key_of a.words a.count };
+
+    ghost invariant = { λ a. IsExpanded a.words a.count };
+}
+
+impl Aes {
+    /// Expands a key of 16, 24 or 32 bytes. Takes no memory.
+    pub fn new(key: &[u8]) -> Result<Aes, BadKeyLength>
+        ensures ok { IsOk result ↔ IsKeyLength (length key.now) }
+        ensures value { IfOk result (λ aes. aes ≡ key.now) }
+    {
+        match key.len() {
+            16 | 24 | 32 => Ok(Aes {
+                words: expand(key),
+                count: key.len() / 4 + 6,
+            }),
+            _ => Err(BadKeyLength),
+        }
+    }
+}
+
+// Both ways are the standard's under the key.
+impl BlockCipher for Aes {
+    ghost use Rattle.aes_block.specs.Cipher.{aes_cipher, aes_decipher};
+    ghost use Rattle.aes_block.specs.Laws.{IsBlock-aes_cipher, IsBlock-aes_decipher, aes_cipher-aes_decipher, aes_decipher-aes_cipher};
+
+    ghost cipher = { aes_cipher };
+
+    ghost decipher = { aes_decipher };
+
+    fn encrypt_block(&self, block: &mut [u8; 16]) {
+        encipher(block, &self.words, self.count);
+    }
+
+    fn decrypt_block(&self, block: &mut [u8; 16]) {
+        decipher(block, &self.words, self.count);
+    }
+
+    ghost enciphers = { IsBlock-aes_cipher };
+
+    ghost deciphers = { IsBlock-aes_decipher };
+
+    ghost undoes = { aes_decipher-aes_cipher };
+
+    ghost redoes = { aes_cipher-aes_decipher };
+}

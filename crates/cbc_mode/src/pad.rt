@@ -28,9 +28,5 @@ pub fn padding_len(text: &[u8]) -> Option<usize>
         return None;
     }
     let tail = &text[text.len() - count..];
-    if tail.iter().all(|byte| *byte == last) {
-        Some(count)
-    } else {
-        None
-    }
+    tail.iter().all(|byte| *byte == last).then_some(count)
 }

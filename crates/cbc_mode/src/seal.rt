@@ -55,7 +55,8 @@ pub fn cbc_open<B: BlockCipher>(
     body: &[u8],
 ) -> Result<Vec<u8>, CbcRefused>
     // The text is the one that has this body.
-    ensures found { IfOk result (λ v. body.now ≡ ciphertext (B.cipher cipher.now) iv.now (pad v.items)) }
+    ensures found { IfOk result (λ v.
+        body.now ≡ ciphertext (B.cipher cipher.now) iv.now (pad v.items)) }
     ensures bytes { IfOk result (λ v. AreBytes v.items) }
     ensures only { (text : List ℕ) → AreBytes text
         → body.now ≡ ciphertext (B.cipher cipher.now) iv.now (pad text)

@@ -9,7 +9,7 @@ use crate::hash::BlockHash;
 use dp_base::Prf;
 use sha2::{Digest, Sha256, Sha512};
 
-// No hash function has a longer block.
+// The bytes of the longest block that a `BlockHash` has.
 const MAX_BLOCK: usize = 128;
 
 // ipad and opad (2.3).
@@ -76,8 +76,10 @@ impl<H: BlockHash> Prf for Hmac<H> {
 /// What the values of the two are: the definition over SHA-256 with blocks of 64 bytes, and over
 /// SHA-512 with blocks of 128.
 pub fn values_are_hmac()
-    ensures sha256 { (key text : List ℕ) → ⟦<HmacSha256 as Prf>⟧.value key text ≡ hmac sha256 64 key text }
-    ensures sha512 { (key text : List ℕ) → ⟦<HmacSha512 as Prf>⟧.value key text ≡ hmac sha512 128 key text }
+    ensures sha256 { (key text : List ℕ)
+        → ⟦<HmacSha256 as Prf>⟧.value key text ≡ hmac sha256 64 key text }
+    ensures sha512 { (key text : List ℕ)
+        → ⟦<HmacSha512 as Prf>⟧.value key text ≡ hmac sha512 128 key text }
 {}
 
 // K0 of the key (4, steps 1 to 3), over a block of zeros.

@@ -9,6 +9,6 @@ unfolding id_of_guid
 returns c =
     let value = c.as_u128.ensures ∙ ap (from_be_bytes w128) c.from_bytes_le.ensures in
     record {
-        value = value;
-        undoes = ap guid value ∙ guid-id_of_guid c.args.bytes.now c.told-bytes c.fits-bytes;
+      value = value;
+      undoes = ap guid value ∙ guid-id_of_guid c.args.bytes.now c.told-bytes c.fits-bytes;
     }

@@ -1,0 +1,52 @@
+-- The bytes of a list of elements are at most as many as are read.
+use Rattle.std.proofs.Common.{◌≡◌, ℕ, ◌+◌, ◌*◌, ◌<◌, ◌≤◌, List, [], ◌∷◌, ◌++◌, length, take, drop, min, Option, Some, None, refl, sym, ap, subst, ◌∙◌, arith}
+use Rattle.std.specs.List.{flat_map, AllByRecursion}
+use Rattle.std.specs.Option.{IfSome}
+use Rattle.std.proofs.lemmas.List.{length-append, length-take, take_all, drop_all}
+use Rattle.dp_base.specs.Guid.{guid}
+use Rattle.dp_base.proofs.Guid.{length-guid}
+use Rattle.key_elements.specs.declared.element.Element.{Element}
+use Rattle.key_elements.specs.declared.element.Element.TheVariants.{Key}
+use Rattle.key_elements.specs.Record.{date, key_fields, record_of, IsElement, IsList}
+use Rattle.dp_server.specs.declared.transfer.TheConstants.{MAX_RECORD, MAX_INPUT}
+use Rattle.dp_server.specs.Transfer.{TakesFront}
+use Rattle.dp_server.specs.Show.{IsListed, IsWhole}
+
+length-record-le : (e : Element) → IsElement e → length (record_of e) ≤ MAX_RECORD
+unfolding key_fields
+length-record-le (Key k) is =
+    let id = guid k.id.0 in
+    let one = id ++ date k.creation in
+    let two = one ++ date k.activation in
+    let three = two ++ date k.expiration in
+    omega (arith, length-append three (k.alg ∷ k.material), length-append two (date k.expiration), length-append one (date k.activation), length-append id (date k.creation), length-guid k.id.0, is.material_len)
+
+length-records-le : (es : List Element) → AllByRecursion IsElement es → length (flat_map record_of es) ≤ MAX_RECORD * length es
+length-records-le [] all = omega arith
+length-records-le (e ∷ es) all =
+    omega (arith, length-append (record_of e) (flat_map record_of es), length-record-le e all.0, length-records-le es all.1)
+
+-- a list of elements has at most so many bytes
+length-list-le : (bytes : List ℕ) (es : List Element) → IsList bytes es → length bytes ≤ MAX_INPUT
+length-list-le bytes es list = omega (arith, list.0, ap length list.1.1, length-records-le es list.1.0)
+
+-- a front that is shorter than what was asked for is the whole
+whole : (left bytes : List ℕ) → bytes ≡ take (MAX_INPUT + 1) left → length bytes ≤ MAX_INPUT → (length left ≤ MAX_INPUT + 1) × (bytes ≡ left)
+whole left bytes front few =
+    let short : length left ≤ MAX_INPUT + 1 = omega (arith, ap length front, length-take (MAX_INPUT + 1) left) in
+    (short, front ∙ take_all (MAX_INPUT + 1) left short)
+
+-- where the front is a list, the whole input is
+pub IsWhole-front : (left after : Option (List ℕ)) (bytes : List ℕ) (es : List Element) → TakesFront (MAX_INPUT + 1) left after bytes → IsList bytes es → IsWhole left after es
+IsWhole-front None after bytes es front list = tt
+IsWhole-front (Some left) after bytes es front list =
+    let all = whole left bytes front.0 (length-list-le bytes es list) in
+    (subst (λ (t : List ℕ). IsList t es) all.1 list, front.1 ∙ ap Some (drop_all (MAX_INPUT + 1) left all.0))
+
+-- where the front is no list, the whole input is none
+pub none-front : (left after : Option (List ℕ)) (bytes : List ℕ) → TakesFront (MAX_INPUT + 1) left after bytes → ((es : List Element) → IsList bytes es → ⊥)
+    → IfSome left (λ all. IsListed all → ⊥)
+none-front None after bytes front none = tt
+none-front (Some left) after bytes front none = λ listed.
+    let few = length-list-le left listed.0 listed.1 in
+    none listed.0 (subst (λ (t : List ℕ). IsList t listed.0) (sym (front.0 ∙ take_all (MAX_INPUT + 1) left (omega arith))) listed.1)

@@ -1,0 +1,4 @@
+pub mod Decimals
+pub mod InTurn
+pub mod Lawful
+pub mod Lengths

@@ -1,0 +1,17 @@
+use Rattle.std.proofs.Common.{List, ap, sym, subst}
+use Rattle.key_elements.specs.Record.{IsList}
+use Rattle.dp_server.specs.Statuses.{refusal_status}
+use Rattle.dp_server.proofs.Lengths.{IsWhole-front, none-front}
+use Rattle.dp_server.proofs.show.input_list.Goals as goal
+
+pub returns-in-Ok-read_list-clause-list : goal.returns-in-Ok-read_list-clause-list
+returns-in-Ok-read_list-clause-list g c =
+    let found = rw c.as_slice.ensures.value at c.in-Ok-read_list.ensures.found in
+    IsWhole-front _ _ c.in-Ok.bytes.items _ c.in-Ok.ensures.value found
+
+pub returns-clause-bad_input : goal.returns-clause-bad_input
+returns-clause-bad_input g c = λ e.
+    none-front _ _ c.in-Ok.bytes.items c.in-Ok.ensures.value (λ es list.
+    let again : IsList c.as_slice.result.now es = rw c.as_slice.ensures.value list in
+    let memory = c.in-Err.ensures.only es again in
+    absurd (cc (e, c.status_of.ensures, ap refusal_status memory)))

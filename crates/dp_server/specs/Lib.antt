@@ -1,0 +1,5 @@
+pub mod Statuses
+pub mod Words
+pub mod Commands
+pub mod Transfer
+pub mod Show

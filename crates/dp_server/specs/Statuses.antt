@@ -1,0 +1,48 @@
+-- The number and the message of each status (docs/FORMATS.md, "Statuses").
+use Rattle.std.specs.Prelude.{ℕ, List, Option, Some, None, codes}
+use Rattle.key_elements.specs.declared.refused.ListRefused.{ListRefused}
+use Rattle.key_elements.specs.declared.refused.ListRefused.TheVariants as refused
+use Rattle.dp_server.specs.declared.status.Status.{Status}
+use Rattle.dp_server.specs.declared.status.Status.TheVariants.{Done, BadWords, BadInput, ReadFault, WriteFault, NoMemory}
+
+-- the number that a process ends with
+abbrev pub number_of : Status → ℕ
+number_of Done = 0
+number_of BadWords = 2
+number_of BadInput = 3
+number_of ReadFault = 4
+number_of WriteFault = 5
+number_of NoMemory = 8
+
+-- the text on standard error
+abbrev pub message_of : Status → Option (List ℕ)
+message_of Done = None
+message_of BadWords = Some (codes "dp_server: bad words")
+message_of BadInput = None
+message_of ReadFault = Some (codes "dp_server: reading failed")
+message_of WriteFault = Some (codes "dp_server: writing failed")
+message_of NoMemory = Some (codes "dp_server: out of memory")
+
+-- the statuses that an input may have that is a list
+abbrev pub IsAccepting : Status → Type 0
+IsAccepting Done = Unit {0}
+IsAccepting BadWords = ⊥
+IsAccepting BadInput = ⊥
+IsAccepting ReadFault = Unit {0}
+IsAccepting WriteFault = Unit {0}
+IsAccepting NoMemory = Unit {0}
+
+-- the statuses that an input may have that is none
+abbrev pub IsRefusing : Status → Type 0
+IsRefusing Done = ⊥
+IsRefusing BadWords = ⊥
+IsRefusing BadInput = Unit {0}
+IsRefusing ReadFault = Unit {0}
+IsRefusing WriteFault = ⊥
+IsRefusing NoMemory = Unit {0}
+
+-- the status of input that was refused as a list
+abbrev pub refusal_status : ListRefused → Status
+refusal_status (refused.At place why) = BadInput
+refusal_status (refused.TooMany place) = BadInput
+refusal_status refused.Memory = NoMemory

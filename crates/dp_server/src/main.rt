@@ -1,0 +1,54 @@
+//! Prints the ring that a list of key records gives at a moment: `dp_server show MOMENT` reads the
+//! records from standard input and writes the listing to standard output.
+#![tactic(auto)]
+
+mod run;
+mod show;
+mod status;
+mod transfer;
+mod words;
+
+#[cfg(test)]
+mod tests;
+
+use dp_base::{StdSink, StdSource};
+use run::run;
+use status::Status;
+use std::env;
+use std::io::ErrorKind;
+use std::process::ExitCode;
+
+// The words behind the name of the program. Words that are no text are of no lawful form.
+fn words_of(rt: &HostRuntime) -> Result<Vec<String>, Status> {
+    let mut words = Vec::new(rt.alloc());
+    let args = match env::args(rt) {
+        Ok(args) => args,
+        Err(error) if error.kind() == ErrorKind::InvalidData => return Err(Status::BadWords),
+        Err(_) => return Err(Status::NoMemory),
+    };
+    for word in args.skip(1) {
+        if words.push(word).is_err() {
+            return Err(Status::NoMemory);
+        }
+    }
+    Ok(words)
+}
+
+// Runs over the standard streams.
+fn status_of(rt: &HostRuntime) -> Status {
+    let words = match words_of(rt) {
+        Ok(words) => words,
+        Err(status) => return status,
+    };
+    let mut input = StdSource::new(rt);
+    let mut output = StdSink::new(rt);
+    run(rt.alloc(), words.as_slice(), &mut input, &mut output).status
+}
+
+fn main(rt: HostRuntime) -> ExitCode {
+    let status = status_of(&rt);
+    if let Some(message) = status.message() {
+        let _ = rt.eprintln(message);
+    }
+    ExitCode::from(status.number())
+}

@@ -1,0 +1,72 @@
+//! The top call.
+
+ghost use Rattle.std.specs.Prelude.{◌≡◌, ◌≢◌, ◌+◌, ◌≤◌, ◌↔◌, IfSome, map, string_bytes};
+ghost use Rattle.dp_base.specs.Counts.{Rises};
+ghost use Rattle.dp_server.specs.declared.status.Status.TheVariants.{Done, BadWords, BadInput, ReadFault, WriteFault};
+ghost use Rattle.dp_server.specs.declared.transfer.TheConstants.{MAX_INPUT};
+ghost use Rattle.dp_server.specs.Words.{IsLawful};
+ghost use Rattle.dp_server.specs.Statuses.{IsAccepting, IsRefusing};
+ghost use Rattle.dp_server.specs.Transfer.{TakesAtMost, Writes, WritesFront};
+ghost use Rattle.dp_server.specs.Show.{IsListed, IsShowAnd, Shows};
+
+use crate::show::show;
+use crate::status::Status;
+use crate::words::{Command, command_of};
+use dp_base::{Sink, Source};
+use std::alloc::Global;
+
+/// How a run ended.
+#[derive(Clone, Copy, Debug, PartialEq, Eq)]
+pub struct Outcome {
+    pub status: Status,
+}
+
+/// Does what the words ask for. `show MOMENT` reads a list of elements to its end, and writes the
+/// listing of its ring at the moment.
+///
+/// What source and sink hold is told of those that tell their bytes, as the ones in memory do.
+pub fn run<I: Source, O: Sink>(
+    alloc: Global,
+    words: &[String],
+    input: &mut I,
+    output: &mut O,
+) -> Outcome
+    // The whole input is a list, and the listing of its ring at the moment is written.
+    ensures done { result.status ≡ Done → IsShowAnd (map string_bytes words.now)
+        (λ moment. Shows moment (I.left input.old) (I.left input.new)
+            (Writes (O.written output.old) (O.written output.new))) }
+
+    // Bad words come first, and then nothing is read or written.
+    ensures bad_words { (result.status ≡ BadWords) ↔ ¬ IsLawful (map string_bytes words.now) }
+    ensures untouched { result.status ≡ BadWords
+        → (input.new ≡ input.old) × (output.new ≡ output.old) }
+
+    ensures bad_input { result.status ≡ BadInput
+        → IfSome (I.left input.old) (λ left. ¬ IsListed left) }
+    ensures read_fault { result.status ≡ ReadFault
+        → Rises (I.faults input.old) (I.faults input.new) }
+    ensures write_fault { result.status ≡ WriteFault
+        → Rises (O.faults output.old) (O.faults output.new) }
+
+    // After a failed write a front of that listing is written.
+    ensures front { result.status ≡ WriteFault → IsShowAnd (map string_bytes words.now)
+        (λ moment. Shows moment (I.left input.old) (I.left input.new)
+            (WritesFront (O.written output.old) (O.written output.new))) }
+
+    // A list of elements is accepted, and nothing else is.
+    ensures accepted { IsLawful (map string_bytes words.now)
+        → IfSome (I.left input.old) (λ left. IsListed left → IsAccepting result.status) }
+    ensures refused { IsLawful (map string_bytes words.now)
+        → IfSome (I.left input.old) (λ left. ¬ IsListed left → IsRefusing result.status) }
+
+    ensures silent { result.status ≢ Done → result.status ≢ WriteFault → output.new ≡ output.old }
+    ensures takes { TakesAtMost (MAX_INPUT + 1) (I.left input.old) (I.left input.new) }
+    ensures input_never_falls { I.faults input.old ≤ I.faults input.new }
+    ensures output_never_falls { O.faults output.old ≤ O.faults output.new }
+{
+    let status = match command_of(words) {
+        Some(Command::Show { now }) => show(alloc, now, input, output),
+        None => Status::BadWords,
+    };
+    Outcome { status }
+}

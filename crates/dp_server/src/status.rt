@@ -1,0 +1,43 @@
+//! What the program ends with.
+
+ghost use Rattle.std.specs.Prelude.{◌≡◌, option_map};
+ghost use Rattle.dp_server.specs.Statuses.{number_of, message_of};
+
+/// The status of a run.
+#[derive(Clone, Copy, Debug, PartialEq, Eq)]
+pub enum Status {
+    /// The input was read to its end, and all was written.
+    Done = 0,
+    /// The words are of no lawful form.
+    BadWords = 2,
+    /// The input is no list of elements.
+    BadInput = 3,
+    /// The source failed.
+    ReadFault = 4,
+    /// The sink failed.
+    WriteFault = 5,
+    /// No memory was found.
+    NoMemory = 8,
+}
+
+impl Status {
+    /// The number that the process ends with.
+    pub fn number(self) -> u8
+        ensures { result ≡ number_of self }
+    {
+        self as u8
+    }
+
+    /// The line that is printed on standard error, if there is one.
+    pub fn message(self) -> Option<&'static str>
+        ensures { option_map (λ m. m.now) result ≡ message_of self }
+    {
+        match self {
+            Status::Done | Status::BadInput => None,
+            Status::BadWords => Some("dp_server: bad words"),
+            Status::ReadFault => Some("dp_server: reading failed"),
+            Status::WriteFault => Some("dp_server: writing failed"),
+            Status::NoMemory => Some("dp_server: out of memory"),
+        }
+    }
+}

@@ -1,0 +1,79 @@
+//! Reading all input, up to a limit, and writing all output.
+
+ghost use Rattle.std.specs.Prelude.{◌≡◌, ◌+◌, ◌≤◌, Err, IfOk, OnOk, OnErr};
+ghost use Rattle.dp_base.specs.Counts.{Rises};
+ghost use Rattle.dp_server.specs.declared.transfer.ReadRefused.TheVariants as reads;
+ghost use Rattle.dp_server.specs.Transfer.{TakesFront, TakesAtMost, Writes, WritesFront};
+
+use dp_base::{Failed, Sink, Source};
+use key_elements::MAX_ELEMENTS;
+use std::alloc::{AllocError, Global};
+
+/// The most bytes of the record of an element.
+pub const MAX_RECORD: usize = 1_051;
+
+/// The most bytes of a list of elements.
+pub const MAX_INPUT: usize = MAX_ELEMENTS as usize * MAX_RECORD;
+
+// How many bytes a read asks for.
+const PIECE: usize = 4_096;
+
+/// Why input wasn't read.
+#[derive(Clone, Copy, Debug, PartialEq, Eq)]
+pub enum ReadRefused {
+    /// The source failed.
+    Failed,
+    /// No memory was found for the bytes.
+    Memory,
+}
+
+impl From<Failed> for ReadRefused {
+    ghost from_gives = { λ _ refused. refused ≡ reads.Failed };
+
+    fn from(_: Failed) -> ReadRefused {
+        ReadRefused::Failed
+    }
+}
+
+impl From<AllocError> for ReadRefused {
+    ghost from_gives = { λ _ refused. refused ≡ reads.Memory };
+
+    fn from(_: AllocError) -> ReadRefused {
+        ReadRefused::Memory
+    }
+}
+
+/// Reads to the end of input, or to one byte more than a list may have.
+pub fn read_input<I: Source>(alloc: Global, input: &mut I) -> Result<Vec<u8>, ReadRefused>
+    ensures value { IfOk result (λ bytes.
+        TakesFront (MAX_INPUT + 1) (I.left input.old) (I.left input.new) bytes.items) }
+    ensures failed { result ≡ Err reads.Failed → Rises (I.faults input.old) (I.faults input.new) }
+    ensures takes { TakesAtMost (MAX_INPUT + 1) (I.left input.old) (I.left input.new) }
+    ensures never_falls { I.faults input.old ≤ I.faults input.new }
+{
+    let mut bytes = Vec::new(alloc);
+    let mut buffer = [0; PIECE];
+    while bytes.len() <= MAX_INPUT {
+        let room = PIECE.min(MAX_INPUT + 1 - bytes.len());
+        let count = input.read(&mut buffer[..room])?;
+        if count == 0 {
+            return Ok(bytes);
+        }
+        bytes.extend_from_slice(&buffer[..count])?;
+    }
+    Ok(bytes)
+}
+
+/// Writes all the bytes.
+pub fn write_all<O: Sink>(output: &mut O, bytes: &[u8]) -> Result<(), Failed>
+    ensures ok { OnOk result (Writes (O.written output.old) (O.written output.new) bytes.now) }
+    ensures err { OnErr result (WritesFront (O.written output.old) (O.written output.new) bytes.now) }
+    ensures cause { OnErr result (Rises (O.faults output.old) (O.faults output.new)) }
+    ensures never_falls { O.faults output.old ≤ O.faults output.new }
+{
+    let mut at = 0;
+    while at < bytes.len() {
+        at += output.write(&bytes[at..])?;
+    }
+    Ok(())
+}

@@ -1,14 +1,13 @@
 -- An element that is read stands at the front of the bytes, and one that stands there is read.
-use Rattle.std.proofs.Common.{◌≡◌, ℕ, zero, suc, ◌+◌, ◌-◌, ◌<◌, ◌≤◌, List, [], ◌∷◌, ◌++◌, length, take, drop, Result, Ok, Err, refl, sym, ap, subst, ◌∙◌, append_assoc, arith}
+use Rattle.std.proofs.Common.{◌≡◌, ℕ, zero, suc, ◌+◌, ◌-◌, ◌<◌, ◌≤◌, List, [], ◌∷◌, ◌++◌, length, take, drop, Result, Ok, refl, sym, ap, subst, ◌∙◌, arith}
 use Rattle.std.proofs.lemmas.List.{take_at, drop_at, take-append-drop, length-append, length-drop}
 use Rattle.dp_base.specs.Blocks.{AreBytes}
-use Rattle.key_elements.specs.declared.element.KeyRecord.{KeyRecord}
 use Rattle.key_elements.specs.declared.element.Element.{Element}
 use Rattle.key_elements.specs.declared.element.Element.TheVariants.{Key}
 use Rattle.key_elements.specs.declared.refused.ElementRefused.{ElementRefused}
-use Rattle.key_elements.specs.Record.{IsElement, IsRecord, key_fields, record_of}
-use Rattle.key_elements.specs.Reading.{◌>>=◌, key_at, element_at}
-use Rattle.key_elements.proofs.Fields.{bind_ok, Takes}
+use Rattle.key_elements.specs.Record.{IsElement, IsRecord, record_of}
+use Rattle.key_elements.specs.Reading.{key_at, element_at}
+use Rattle.key_elements.proofs.Fields.{bind_ok}
 use Rattle.key_elements.proofs.Keys.{key_takes, key_again}
 
 -- an element whose record stands at the front of the bytes

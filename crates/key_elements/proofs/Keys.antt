@@ -1,5 +1,5 @@
 -- The fields of a key: those that are read stand in the bytes, and those that stand there are read.
-use Rattle.std.proofs.Common.{◌≡◌, ℕ, zero, suc, ◌+◌, ◌^◌, ◌<◌, ◌≤◌, List, [], ◌∷◌, ◌++◌, length, get_or, Result, Ok, Err, refl, sym, ap, subst, ◌∙◌, append_assoc, arith}
+use Rattle.std.proofs.Common.{◌≡◌, ℕ, List, [], ◌∷◌, ◌++◌, length, get_or, Result, Ok, refl, sym, ap, subst, ◌∙◌, append_assoc, arith}
 use Rattle.std.specs.List.{slice_index}
 use Rattle.dp_base.specs.Blocks.{AreBytes}
 use Rattle.dp_base.specs.Guid.{guid, id_of_guid}

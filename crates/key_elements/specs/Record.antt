@@ -1,6 +1,6 @@
 -- Records of elements: the bytes of each element, one spelling each. A number is written high byte
 -- first (docs/FORMATS.md, "Element records").
-use Rattle.std.specs.Prelude.{◌≡◌, ℕ, ◌<◌, ◌≤◌, ◌^◌, List, ◌∷◌, [], ◌++◌, length, take}
+use Rattle.std.specs.Prelude.{◌≡◌, ℕ, ◌<◌, ◌≤◌, ◌^◌, List, ◌∷◌, ◌++◌, length}
 use Rattle.std.specs.List.{flat_map, AllByRecursion}
 use Rattle.std.specs.Int.{w64, to_be_bytes}
 use Rattle.dp_base.specs.declared.ticks.TheConstants.{MAX_TICKS}

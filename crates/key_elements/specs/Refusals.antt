@@ -1,5 +1,5 @@
 -- What a reader's answer says, seen without where things lie in memory.
-use Rattle.std.specs.Prelude.{◌≡◌, ℕ, List, Result, Ok, Err}
+use Rattle.std.specs.Prelude.{ℕ, List, Result, Ok, Err}
 use Rattle.key_elements.specs.declared.refused.ListRefused.{ListRefused}
 use Rattle.key_elements.specs.declared.refused.ListRefused.TheVariants as refused
 use Rattle.key_elements.specs.Reading.{IsRefusedAt, IsTooMany}

@@ -1,6 +1,5 @@
-use Rattle.std.proofs.Common.{◌≡◌, ◌≤◌, Ok, length, sym, arith}
-use Rattle.key_elements.specs.Reading.{element_at}
-use Rattle.key_elements.proofs.Elements.{ReadsRecord, reads_record, reads_only, reads_same}
+use Rattle.std.proofs.Common.{sym, arith}
+use Rattle.key_elements.proofs.Elements.{reads_record, reads_only, reads_same}
 use Rattle.key_elements.proofs.reading.read_element.Goals as goal
 
 pub returns-in_err-element-clause-only : goal.returns-in_err-element-clause-only

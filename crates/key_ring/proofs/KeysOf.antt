@@ -1,5 +1,5 @@
 -- The keys of a list of elements, element by element, and that no two have one id.
-use Rattle.std.proofs.Common.{Option, Some, None, ◌≡◌, ℕ, ◌+◌, ◌<◌, Bool, true, false, not, cond, List, [], ◌∷◌, ◌++◌, map, filter, length, take, get_or, refl, ap, sym, subst, eq-eqb, ◌∙◌, arith}
+use Rattle.std.proofs.Common.{Some, None, ◌≡◌, ℕ, ◌+◌, ◌<◌, Bool, true, false, not, cond, List, [], ◌∷◌, ◌++◌, filter, length, take, get_or, refl, ap, sym, subst, eq-eqb, ◌∙◌, arith}
 use Rattle.key_elements.specs.declared.element.Element.{Element}
 use Rattle.key_elements.specs.declared.element.Element.TheVariants.{Key}
 use Rattle.key_elements.specs.declared.element.KeyRecord.{KeyRecord}

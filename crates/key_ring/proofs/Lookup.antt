@@ -1,13 +1,13 @@
 -- What a ring answers by its keys and its policy is what its list and its moment give.
-use Rattle.std.proofs.Common.{◌≡◌, ℕ, Bool, false, ◌==◌, List, Option, Some, None, refl, ap, sym, ◌∙◌}
-use Rattle.std.specs.Prelude.{find, option_map}
+use Rattle.std.proofs.Common.{◌≡◌, ℕ, Bool, false, ◌==◌, List, Option, Some, refl, ap, sym, ◌∙◌}
+use Rattle.std.specs.Prelude.{find}
 use Rattle.std.specs.Option.{option_or}
 use Rattle.default_key.specs.declared.policy.Policy.{Policy}
 use Rattle.key_elements.specs.declared.element.Element.{Element}
 use Rattle.key_elements.specs.declared.element.KeyRecord.{KeyRecord}
 use Rattle.key_ring.specs.Keys.{keys_of, is_usable}
-use Rattle.key_ring.specs.Ring.{IsRing, chosen, policy_at, preferred_key, fallback_key, default_key}
-use Rattle.key_ring.specs.State.{State, has_id, state, lookup_of}
+use Rattle.key_ring.specs.Ring.{IsRing, chosen, preferred_key, fallback_key, default_key}
+use Rattle.key_ring.specs.State.{State, has_id, lookup_of}
 
 pub preferred-is : (es : List Element) (t : ℕ) (keys : List KeyRecord) (policy : Policy) → IsRing es t keys policy → chosen keys policy.preferred ≡ preferred_key es t
 unfolding preferred_key

@@ -1,5 +1,5 @@
 -- The keys of a list of elements, and what the policy knows of them.
-use Rattle.std.specs.Prelude.{ℕ, Bool, false, not, ◌&&◌, ◌==◌, nat_le, List, [], ◌∷◌, map, filter, Option, Some}
+use Rattle.std.specs.Prelude.{Bool, false, not, ◌&&◌, ◌==◌, nat_le, List, [], ◌∷◌, map, filter, Option, Some}
 use Rattle.std.specs.List.{filter_map}
 use Rattle.default_key.specs.declared.key_facts.KeyFacts.{KeyFacts}
 use Rattle.key_elements.specs.declared.element.Element.{Element}

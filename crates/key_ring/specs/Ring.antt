@@ -1,5 +1,5 @@
 -- The ring of a list of elements at a moment, in ticks.
-use Rattle.std.specs.Prelude.{◌≡◌, ℕ, ◌+◌, ◌-◌, ◌&&◌, nat_lt, Bool, if◌then◌else◌, List, Option, Some, None, option_and_then, slice_get}
+use Rattle.std.specs.Prelude.{◌≡◌, ℕ, ◌+◌, ◌-◌, ◌&&◌, nat_lt, if◌then◌else◌, List, Option, Some, None, option_and_then, slice_get}
 use Rattle.std.specs.Option.{option_or}
 use Rattle.default_key.specs.declared.policy.Policy.{Policy}
 use Rattle.default_key.specs.declared.options.TheConstants.{PERIOD}

@@ -1,4 +1,4 @@
-use Rattle.std.proofs.Common.{◌≡◌, true, false, List, [], ◌∷◌, ◌++◌, sym, ap, ◌∙◌, arith, below_more}
+use Rattle.std.proofs.Common.{[], ◌∷◌, ◌++◌, sym, ap, ◌∙◌, arith, below_more}
 use Rattle.key_ring.proofs.Puts.{put_record-at, put_record-new, same_key-read, other_key-read}
 use Rattle.key_ring.proofs.keys.put_record.Goals as goal
 

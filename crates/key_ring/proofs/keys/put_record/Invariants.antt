@@ -1,5 +1,5 @@
 -- the records so far are of other keys
-use Rattle.std.proofs.Common.{◌≡◌, ◌≤◌, ◌<◌, ℕ, false, get_or}
+use Rattle.std.proofs.Common.{◌≡◌, ◌<◌, ℕ, false, get_or}
 use Rattle.key_ring.specs.Keys.{same_key}
 use Rattle.key_ring.proofs.keys.put_record.Given as goal
 

@@ -1,4 +1,4 @@
-use Rattle.std.proofs.Common.{◌≡◌, ℕ, List, ◌+◌, ◌-◌, ap, sym, ◌∙◌}
+use Rattle.std.proofs.Common.{◌≡◌, ℕ, List, ◌+◌, ◌-◌, ap, ◌∙◌}
 use Rattle.std.specs.Option.{option_copied}
 use Rattle.default_key.specs.declared.options.TheConstants.{PERIOD}
 use Rattle.default_key.specs.Choice.{policy_of}

@@ -3,9 +3,9 @@ use Rattle.std.proofs.Common.{◌≡◌, ℕ, zero, suc, ◌+◌, ◌-◌, ◌*�
 use Rattle.std.specs.Int.{w32, to_be_bytes}
 use Rattle.std.specs.List.{flat_map}
 use Rattle.std.proofs.lemmas.List.{get_or-take, take-take, take_all}
-use Rattle.dp_base.specs.Blocks.{AreBytes}
+use Rattle.dp_base.specs.Blocks.{AreBytes, xor_bytes}
 use Rattle.aes_block.specs.Aes.{IsExpanded, key_of}
-use Rattle.aes_block.specs.Cipher.{sub_bytes, shift_rows, mix_columns, xor_bytes, round_key, add_round_key, rounds, cipher, inv_shift_rows, inv_sub_bytes, inv_mix_columns, inv_rounds, inv_cipher, aes_cipher, aes_decipher}
+use Rattle.aes_block.specs.Cipher.{sub_bytes, shift_rows, mix_columns, round_key, add_round_key, rounds, cipher, inv_shift_rows, inv_sub_bytes, inv_mix_columns, inv_rounds, inv_cipher, aes_cipher, aes_decipher}
 use Rattle.aes_block.specs.KeyExpansion.{IsKeyLength, key_expansion, key_words, round_count}
 use Rattle.aes_block.proofs.Schedule.{flat_map-first_words, key_words-few, take-first_words}
 

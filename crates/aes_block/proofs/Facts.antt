@@ -3,7 +3,8 @@
 use Rattle.std.proofs.Common.{◌≡◌, ℕ, ◌+◌, ◌<◌, List, [], ◌∷◌, slice_index, refl}
 use Rattle.aes_block.specs.Field.{xtime, times_bits, times, even_power, inverse, affine, sub_byte, inv_affine, inv_sub_byte}
 use Rattle.aes_block.specs.KeyExpansion.{rot_word, sub_word, power_of_x, rcon, added_word, next_word, first_words, key_expansion}
-use Rattle.aes_block.specs.Cipher.{xor_bytes, sub_bytes, shift_rows, mix_columns, add_round_key, rounds, cipher, inv_shift_rows, inv_sub_bytes, inv_mix_columns, inv_rounds, inv_cipher, aes_cipher, aes_decipher}
+use Rattle.dp_base.specs.Blocks.{xor_bytes}
+use Rattle.aes_block.specs.Cipher.{sub_bytes, shift_rows, mix_columns, add_round_key, rounds, cipher, inv_shift_rows, inv_sub_bytes, inv_mix_columns, inv_rounds, inv_cipher, aes_cipher, aes_decipher}
 use Rattle.std.specs.List.{range_with_len}
 use Rattle.aes_block.specs.Laws.Tables.{same_in_table}
 
@@ -68,31 +69,31 @@ abbrev enciphered_128 : List ℕ
 enciphered_128 = 0x69 ∷ 0xC4 ∷ 0xE0 ∷ 0xD8 ∷ 0x6A ∷ 0x7B ∷ 0x04 ∷ 0x30 ∷ 0xD8 ∷ 0xCD ∷ 0xB7 ∷ 0x80 ∷ 0x70 ∷ 0xB4 ∷ 0xC5 ∷ 0x5A ∷ []
 
 pub cipher_128 : aes_cipher (range_with_len 0 16) plain ≡ enciphered_128
-unfolding xtime times_bits times even_power inverse affine sub_byte rot_word sub_word power_of_x rcon added_word next_word first_words key_expansion xor_bytes sub_bytes shift_rows mix_columns add_round_key rounds cipher aes_cipher
+unfolding xtime times_bits times even_power inverse affine sub_byte rot_word sub_word power_of_x rcon added_word next_word first_words key_expansion sub_bytes shift_rows mix_columns add_round_key rounds cipher aes_cipher
 cipher_128 = refl
 
 pub decipher_128 : aes_decipher (range_with_len 0 16) enciphered_128 ≡ plain
-unfolding xtime times_bits times even_power inverse affine sub_byte inv_affine inv_sub_byte rot_word sub_word power_of_x rcon added_word next_word first_words key_expansion xor_bytes add_round_key inv_shift_rows inv_sub_bytes inv_mix_columns inv_rounds inv_cipher aes_decipher
+unfolding xtime times_bits times even_power inverse affine sub_byte inv_affine inv_sub_byte rot_word sub_word power_of_x rcon added_word next_word first_words key_expansion add_round_key inv_shift_rows inv_sub_bytes inv_mix_columns inv_rounds inv_cipher aes_decipher
 decipher_128 = refl
 
 abbrev enciphered_192 : List ℕ
 enciphered_192 = 0xDD ∷ 0xA9 ∷ 0x7C ∷ 0xA4 ∷ 0x86 ∷ 0x4C ∷ 0xDF ∷ 0xE0 ∷ 0x6E ∷ 0xAF ∷ 0x70 ∷ 0xA0 ∷ 0xEC ∷ 0x0D ∷ 0x71 ∷ 0x91 ∷ []
 
 pub cipher_192 : aes_cipher (range_with_len 0 24) plain ≡ enciphered_192
-unfolding xtime times_bits times even_power inverse affine sub_byte rot_word sub_word power_of_x rcon added_word next_word first_words key_expansion xor_bytes sub_bytes shift_rows mix_columns add_round_key rounds cipher aes_cipher
+unfolding xtime times_bits times even_power inverse affine sub_byte rot_word sub_word power_of_x rcon added_word next_word first_words key_expansion sub_bytes shift_rows mix_columns add_round_key rounds cipher aes_cipher
 cipher_192 = refl
 
 pub decipher_192 : aes_decipher (range_with_len 0 24) enciphered_192 ≡ plain
-unfolding xtime times_bits times even_power inverse affine sub_byte inv_affine inv_sub_byte rot_word sub_word power_of_x rcon added_word next_word first_words key_expansion xor_bytes add_round_key inv_shift_rows inv_sub_bytes inv_mix_columns inv_rounds inv_cipher aes_decipher
+unfolding xtime times_bits times even_power inverse affine sub_byte inv_affine inv_sub_byte rot_word sub_word power_of_x rcon added_word next_word first_words key_expansion add_round_key inv_shift_rows inv_sub_bytes inv_mix_columns inv_rounds inv_cipher aes_decipher
 decipher_192 = refl
 
 abbrev enciphered_256 : List ℕ
 enciphered_256 = 0x8E ∷ 0xA2 ∷ 0xB7 ∷ 0xCA ∷ 0x51 ∷ 0x67 ∷ 0x45 ∷ 0xBF ∷ 0xEA ∷ 0xFC ∷ 0x49 ∷ 0x90 ∷ 0x4B ∷ 0x49 ∷ 0x60 ∷ 0x89 ∷ []
 
 pub cipher_256 : aes_cipher (range_with_len 0 32) plain ≡ enciphered_256
-unfolding xtime times_bits times even_power inverse affine sub_byte rot_word sub_word power_of_x rcon added_word next_word first_words key_expansion xor_bytes sub_bytes shift_rows mix_columns add_round_key rounds cipher aes_cipher
+unfolding xtime times_bits times even_power inverse affine sub_byte rot_word sub_word power_of_x rcon added_word next_word first_words key_expansion sub_bytes shift_rows mix_columns add_round_key rounds cipher aes_cipher
 cipher_256 = refl
 
 pub decipher_256 : aes_decipher (range_with_len 0 32) enciphered_256 ≡ plain
-unfolding xtime times_bits times even_power inverse affine sub_byte inv_affine inv_sub_byte rot_word sub_word power_of_x rcon added_word next_word first_words key_expansion xor_bytes add_round_key inv_shift_rows inv_sub_bytes inv_mix_columns inv_rounds inv_cipher aes_decipher
+unfolding xtime times_bits times even_power inverse affine sub_byte inv_affine inv_sub_byte rot_word sub_word power_of_x rcon added_word next_word first_words key_expansion add_round_key inv_shift_rows inv_sub_bytes inv_mix_columns inv_rounds inv_cipher aes_decipher
 decipher_256 = refl

@@ -2,13 +2,12 @@
 use Rattle.std.proofs.Common.{◌≡◌, ℕ, zero, suc, ◌+◌, ◌<◌, ◌≤◌, List, [], ◌∷◌, ◌++◌, length, map, set, take, drop, slice_index, add-one, refl, ap, ◌∙◌, arith}
 use Rattle.std.specs.Prelude.{bit_xor}
 use Rattle.std.proofs.lemmas.List.{append-nil, drop_all, take_all}
-use Rattle.aes_block.specs.Cipher.{xor_bytes}
+use Rattle.dp_base.specs.Blocks.{xor_bytes}
 
 -- one more byte of the first list is replaced by the sum with that of the second
 xor_bytes_next : (xs ys : List ℕ) (i : ℕ) → i < length xs → i < length ys
     → set (xor_bytes (take i xs) ys ++ drop i xs) i (bit_xor (slice_index (xor_bytes (take i xs) ys ++ drop i xs) i) (slice_index ys i))
     ≡ xor_bytes (take (suc i) xs) ys ++ drop (suc i) xs
-unfolding xor_bytes
 xor_bytes_next [] ys i hx hy = absurd (omega arith)
 xor_bytes_next (x ∷ xs) [] i hx hy = absurd (omega arith)
 xor_bytes_next (x ∷ xs) (y ∷ ys) zero hx hy = refl

@@ -3,6 +3,7 @@
 use Rattle.std.specs.Prelude.{ℕ, zero, suc, ◌+◌, ◌-◌, ◌*◌, ◌/◌, ◌%◌, List, [], ◌∷◌, ◌++◌, map, bit_xor, slice_index}
 use Rattle.std.specs.Int.{w32, to_be_bytes}
 use Rattle.std.specs.List.{range_with_len}
+use Rattle.dp_base.specs.Blocks.{xor_bytes}
 use Rattle.aes_block.specs.Field.{times, sub_byte, inv_sub_byte}
 use Rattle.aes_block.specs.KeyExpansion.{key_expansion, round_count}
 
@@ -13,11 +14,6 @@ state_byte s r c = slice_index s (r + 4 * c)
 -- the state with f r c in row r of column c
 abbrev pub state_of : (ℕ → ℕ → ℕ) → List ℕ
 state_of f = map (λ i. f (i % 4) (i / 4)) (range_with_len 0 16)
-
--- the sums of the bytes of two lists, one by one
-unfoldable pub xor_bytes : List ℕ → List ℕ → List ℕ
-xor_bytes (x ∷ xs) (y ∷ ys) = bit_xor x y ∷ xor_bytes xs ys
-xor_bytes xs ys = []
 
 -- SubBytes (5.1.1)
 unfoldable pub sub_bytes : List ℕ → List ℕ

@@ -1,7 +1,7 @@
 -- CBC decryption and encryption undo each other, where a cipher and its inverse do.
 use Rattle.std.proofs.Common.{◌≡◌, ℕ, suc, ◌%◌, ◌<◌, ◌≤◌, List, [], ◌∷◌, ◌++◌, length, take, drop, refl, ap, arith}
-use Rattle.dp_base.specs.Blocks.{AreBytes, IsBlock}
-use Rattle.cbc_mode.specs.Cbc.{xor_bytes, cbc, cbc_inverse, blocks, ciphertext, plaintext}
+use Rattle.dp_base.specs.Blocks.{AreBytes, IsBlock, xor_bytes}
+use Rattle.cbc_mode.specs.Cbc.{cbc, cbc_inverse, blocks, ciphertext, plaintext}
 use Rattle.cbc_mode.proofs.Xor.{IsBlock-xor, xor_bytes-twice}
 use Rattle.cbc_mode.proofs.Blocks.{AreBlocks, AreBlocks-blocks, blocks-cons, blocks-short, blocks-concat, concat-blocks, length-concat, AreBytes-concat}
 

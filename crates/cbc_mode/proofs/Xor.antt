@@ -2,8 +2,7 @@
 use Rattle.std.proofs.Common.{◌≡◌, ℕ, zero, suc, ◌<◌, List, [], ◌∷◌, length, refl, ap, ◌++◌, take, drop, set, slice_index, bit_xor, lit<, arith}
 use Rattle.std.specs.Int.Bits.{xor_assoc, xor_self, xor_zero_r}
 use Rattle.std.proofs.lemmas.Nat.{xor_lt}
-use Rattle.dp_base.specs.Blocks.{AreBytes, IsBlock}
-use Rattle.cbc_mode.specs.Cbc.{xor_bytes}
+use Rattle.dp_base.specs.Blocks.{AreBytes, IsBlock, xor_bytes}
 
 pub length-xor_bytes : (xs ys : List ℕ) → length xs ≡ length ys → length (xor_bytes xs ys) ≡ length xs
 length-xor_bytes [] ys e = refl

@@ -1,7 +1,8 @@
 //! Cipher block chaining in place (SP 800-38A, 6.2).
 
 ghost use Rattle.std.specs.Prelude.{◌≡◌, ◌%◌, length};
-ghost use Rattle.cbc_mode.specs.Cbc.{xor_bytes, ciphertext, plaintext};
+ghost use Rattle.dp_base.specs.Blocks.{xor_bytes};
+ghost use Rattle.cbc_mode.specs.Cbc.{ciphertext, plaintext};
 
 use dp_base::BlockCipher;
 

@@ -6,8 +6,7 @@ use Rattle.std.specs.Int.{w32, byte_at, bytes_high_first, to_be_bytes}
 use Rattle.std.proofs.lemmas.List.{append_assoc, get_or_at, length_push}
 use Rattle.std.proofs.lemmas.Nat.{xor_lt}
 use lib.Bits.{xor_assoc, xor_self, xor_zero_r}
-use Rattle.dp_base.specs.Blocks.{AreBytes}
-use Rattle.aes_block.specs.Cipher.{xor_bytes}
+use Rattle.dp_base.specs.Blocks.{AreBytes, xor_bytes}
 
 pub AreBytes-nil : AreBytes []
 AreBytes-nil i = lit< tt
@@ -50,13 +49,11 @@ pub AreBytes-to_be_bytes : (word : ℕ) → AreBytes (to_be_bytes w32 word)
 AreBytes-to_be_bytes word = AreBytes-bytes_high_first 4 word
 
 pub length-xor_bytes : (xs ys : List ℕ) → length xs ≡ length ys → length (xor_bytes xs ys) ≡ length xs
-unfolding xor_bytes
 length-xor_bytes [] ys h = refl
 length-xor_bytes (x ∷ xs) [] h = absurd (omega arith)
 length-xor_bytes (x ∷ xs) (y ∷ ys) h = ap suc (length-xor_bytes xs ys (omega arith))
 
 pub AreBytes-xor_bytes : (xs ys : List ℕ) → AreBytes xs → AreBytes ys → AreBytes (xor_bytes xs ys)
-unfolding xor_bytes
 AreBytes-xor_bytes [] ys hx hy = AreBytes-nil
 AreBytes-xor_bytes (x ∷ xs) [] hx hy = AreBytes-nil
 AreBytes-xor_bytes (x ∷ xs) (y ∷ ys) hx hy =
@@ -64,7 +61,6 @@ AreBytes-xor_bytes (x ∷ xs) (y ∷ ys) hx hy =
     (AreBytes-xor_bytes xs ys (λ i. hx (suc i)) (λ i. hy (suc i)))
 
 pub xor_bytes-xor_bytes : (xs ys : List ℕ) → length xs ≡ length ys → xor_bytes (xor_bytes xs ys) ys ≡ xs
-unfolding xor_bytes
 xor_bytes-xor_bytes [] ys h = refl
 xor_bytes-xor_bytes (x ∷ xs) [] h = absurd (omega arith)
 xor_bytes-xor_bytes (x ∷ xs) (y ∷ ys) h =

@@ -1,10 +1,10 @@
 use Rattle.std.proofs.Common.{◌∙◌, ap, arith, length, refl}
-use Rattle.aes_block.specs.Cipher.{add_round_key, xor_bytes}
+use Rattle.dp_base.specs.Blocks.{xor_bytes}
+use Rattle.aes_block.specs.Cipher.{add_round_key}
 use Rattle.aes_block.proofs.InPlace.{xor_bytes_all, xor_bytes_more}
 use Rattle.aes_block.proofs.steps.add_round_key.Goals as goal
 
 pub loop-i-init : goal.loop-i-init
-unfolding xor_bytes
 loop-i-init c = refl
 
 pub loop-i-preserved : goal.loop-i-preserved

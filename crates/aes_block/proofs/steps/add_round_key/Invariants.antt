@@ -1,6 +1,6 @@
 -- the first bytes are done
 use Rattle.std.proofs.Common.{◌≡◌, ◌++◌, take, drop}
-use Rattle.aes_block.specs.Cipher.{xor_bytes}
+use Rattle.dp_base.specs.Blocks.{xor_bytes}
 use Rattle.aes_block.proofs.steps.add_round_key.Given as goal
 
 abbrev pub invariant-loop-i : goal.invariant-loop-i

@@ -1,6 +1,6 @@
 -- the bytes before the place are done
 use Rattle.std.proofs.Common.{◌≡◌, ◌++◌, take, drop}
-use Rattle.cbc_mode.specs.Cbc.{xor_bytes}
+use Rattle.dp_base.specs.Blocks.{xor_bytes}
 use Rattle.cbc_mode.proofs.chain.xor_into.Given as goal
 
 abbrev pub invariant-loop-i : goal.invariant-loop-i

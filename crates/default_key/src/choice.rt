@@ -59,7 +59,8 @@ pub struct Newest {
 }
 
 impl Choice for Newest {
-    ghost passes = { λ newest key. is_sound key && nat_le (key.creation + newest.propagation) newest.now };
+    ghost passes = { λ newest key. is_sound key
+        && nat_le (key.creation + newest.propagation) newest.now };
 
     ghost before = { is_newer };
 
@@ -115,7 +116,8 @@ pub fn first_of<C: Choice>(choice: &C, keys: &[KeyFacts]) -> Option<usize>
 // Whether the key passes, and goes before the key that was found, if there is one.
 fn is_better<C: Choice>(choice: &C, key: &KeyFacts, found: Option<(usize, KeyFacts)>) -> bool
     ensures { result
-        ≡ (C.passes choice.now key.now && option_map_or (λ held. C.before key.now held.1) found true) }
+        ≡ (C.passes choice.now key.now
+        && option_map_or (λ held. C.before key.now held.1) found true) }
 {
     choice.passes(key)
         && match found {

@@ -68,7 +68,8 @@ impl Options {
 /// The standard options: keys are made where they are due, live 90 days and have the algorithm of
 /// code 3, AES-256 in CBC with HMAC over SHA-256.
 impl Default for Options {
-    ghost is_default = { λ o. (o.lifetime ≡ 90 * TICKS_PER_DAY) × IsTrue o.auto × (o.new_alg ≡ Cbc256 A256) };
+    ghost is_default = { λ o. (o.lifetime ≡ 90 * TICKS_PER_DAY) × IsTrue o.auto
+        × (o.new_alg ≡ Cbc256 A256) };
 
     fn default() -> Self {
         Options {

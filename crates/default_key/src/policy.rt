@@ -33,7 +33,8 @@ pub fn resolve(keys: &[KeyFacts], now: u64, options: &Options) -> Policy
         → (result.preferred ≡ Some place)
         ↔ IsSomeAnd (slice_get keys.now place) (IsPreferred keys.now now) }
     ensures renew { (result.renew ≡ false) ↔ IsFollowed keys.now now }
-    ensures fallback { (place : ℕ) → (result.fallback ≡ Some place) ↔ IsFallback keys.now now place }
+    ensures fallback { (place : ℕ)
+        → (result.fallback ≡ Some place) ↔ IsFallback keys.now now place }
 
     // Places are those of keys.
     ensures preferred_within { IfSome result.preferred (λ place. place < length keys.now) }

@@ -38,8 +38,8 @@ impl Model for MemSource {
 }
 
 impl MemSource {
-    /// A source of the bytes that moves at most `piece` of them a call. The calls whose numbers, from
-    /// 0, are in `fail` fail.
+    /// A source of the bytes that moves at most `piece` of them a call. The calls whose numbers,
+    /// from 0, are in `fail` fail.
     pub fn new(bytes: Vec<u8>, piece: usize, fail: Vec<u64>) -> MemSource
         requires { 1 ≤ piece }
         ensures { result ≡ record {
@@ -117,8 +117,8 @@ impl Model for MemSink {
 }
 
 impl MemSink {
-    /// An empty sink that takes at most `piece` bytes a call. The calls whose numbers, from 0, are in
-    /// `fail` fail, and so does one that finds no memory for its bytes.
+    /// An empty sink that takes at most `piece` bytes a call. The calls whose numbers, from 0, are
+    /// in `fail` fail, and so does one that finds no memory for its bytes.
     pub fn new(alloc: Global, piece: usize, fail: Vec<u64>) -> MemSink
         requires { 1 ≤ piece }
         ensures { result ≡ record {

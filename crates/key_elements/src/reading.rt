@@ -80,7 +80,8 @@ fn element_of(bytes: &[u8]) -> Result<(Element, &[u8]), ElementRefused>
 /// Reads the element at the front, and answers the length of its record in bytes. Bytes may follow
 /// the record.
 pub fn read_element(bytes: &[u8]) -> Result<(Element, usize), ElementRefused>
-    ensures found { IfOk result (λ r. (r.1 ≤ length bytes.now) × IsRecord (take r.1 bytes.now) r.0) }
+    ensures found { IfOk result (λ r.
+        (r.1 ≤ length bytes.now) × IsRecord (take r.1 bytes.now) r.0) }
 
     // A record at the front is read.
     ensures only { (e : Element) (n : ℕ) → n ≤ length bytes.now → IsRecord (take n bytes.now) e
@@ -93,7 +94,8 @@ pub fn read_element(bytes: &[u8]) -> Result<(Element, usize), ElementRefused>
     Ok((element, bytes.len() - rest.len()))
 }
 
-/// Reads a list of elements: records one after the other, with nothing before, between or after them.
+/// Reads a list of elements: records one after the other, with nothing before, between or after
+/// them.
 pub fn read_list(alloc: Global, bytes: &[u8]) -> Result<ElementList, ListRefused>
     ensures found { IfOk result (λ list. IsList bytes.now list) }
 

@@ -12,16 +12,16 @@ use key_elements::{Element, KeyRecord};
 use std::alloc::Global;
 
 // Puts a record in the place of its key, or at the end where its key is new.
-fn put_record(keys: &mut Vec<KeyRecord>, record: &KeyRecord) -> Result<(), Memory>
-    ensures { OnOk result (keys.new.items ≡ put_record record.now keys.old.items) }
+fn put_record(keys: &mut Vec<KeyRecord>, latest: &KeyRecord) -> Result<(), Memory>
+    ensures { OnOk result (keys.new.items ≡ put_record latest.now keys.old.items) }
 {
     for place in 0..keys.len() {
-        if keys[place].id.0 == record.id.0 {
-            keys[place] = *record;
+        if keys[place].id.0 == latest.id.0 {
+            keys[place] = *latest;
             return Ok(());
         }
     }
-    keys.push(*record)?;
+    keys.push(*latest)?;
     Ok(())
 }
 
@@ -56,7 +56,8 @@ pub(crate) fn is_usable(key: &KeyRecord) -> bool
 
 // What the policy knows of the keys. No kind of element revokes a key.
 pub(crate) fn facts_of(alloc: Global, keys: &[KeyRecord]) -> Result<Vec<KeyFacts>, Memory>
-    ensures { (es : List Element) → IfOk result (λ facts. facts.items ≡ map (facts_of es) keys.now) }
+    ensures { (es : List Element)
+        → IfOk result (λ facts. facts.items ≡ map (facts_of es) keys.now) }
 {
     let mut facts = Vec::new(alloc);
     for key in keys {

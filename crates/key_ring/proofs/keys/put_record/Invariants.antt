@@ -6,5 +6,5 @@ use Rattle.key_ring.proofs.keys.put_record.Given as goal
 abbrev pub invariant-loop-place : goal.invariant-loop-place
 invariant-loop-place l = record {
   same : l.keys.items ≡ l.fn.keys.items;
-  others : (k : ℕ) → k < l.place → same_key (get_or l.fn.keys.items k l.record) l.record ≡ false;
+  others : (k : ℕ) → k < l.place → same_key (get_or l.fn.keys.items k l.latest) l.latest ≡ false;
 }

@@ -1,9 +1,9 @@
 -- The bytes of several reads, one after the other.
-use Rattle.std.proofs.Common.{◌≡◌, ℕ, ◌+◌, ◌<◌, ◌≤◌, List, [], ◌∷◌, ◌++◌, length, take, drop, Option, Some, None, refl, sym, ap, subst, ◌∙◌, append_assoc, arith}
+use Rattle.std.proofs.Common.{◌≡◌, ℕ, ◌+◌, ◌<◌, ◌≤◌, List, [], ◌++◌, length, take, drop, Option, Some, None, refl, sym, ap, subst, ◌∙◌, append_assoc, arith}
 use Rattle.std.proofs.Math.Seq.{take-add}
-use Rattle.std.proofs.lemmas.List.{take_at, drop_at, take-append-drop, length-append, append-nil, take_all, drop_all}
+use Rattle.std.proofs.lemmas.List.{take_at, drop_at, take-append-drop, append-nil, take_all, drop_all}
 use Rattle.dp_base.specs.Streams.{Gives, Takes}
-use Rattle.dp_server.specs.Transfer.{TakesFront, TakesAtMost, WritesFront}
+use Rattle.dp_server.specs.Transfer.{TakesFront, TakesAtMost}
 
 -- these bytes went from the front of what was left
 abbrev pub Reads : Option (List ℕ) → Option (List ℕ) → List ℕ → Type 0
@@ -19,11 +19,12 @@ pub Reads-more : (left mid after : Option (List ℕ)) (bytes buffer : List ℕ) 
     → Reads left after (bytes ++ take n buffer)
 Reads-more None mid after bytes buffer n reads gives = tt
 Reads-more (Some left) mid after bytes buffer n reads gives =
-    let more = subst (λ (m : Option (List ℕ)). Gives m after n buffer) reads.2 gives in
-    (drop n reads.0,
-     reads.1 ∙ ap (λ (t : List ℕ). bytes ++ t) (sym (take-append-drop n reads.0)) ∙ sym (append_assoc bytes (take n reads.0) (drop n reads.0))
-       ∙ ap (λ (t : List ℕ). (bytes ++ t) ++ drop n reads.0) (sym more.1),
-     more.2)
+    let more = subst (λ (m : Option (List ℕ)). Gives m after n buffer) reads.2 gives in (
+      drop n reads.0,
+      reads.1 ∙ ap (λ (t : List ℕ). bytes ++ t) (sym (take-append-drop n reads.0)) ∙ sym (append_assoc bytes (take n reads.0) (drop n reads.0))
+          ∙ ap (λ (t : List ℕ). (bytes ++ t) ++ drop n reads.0) (sym more.1),
+      more.2,
+    )
 
 -- as many bytes as are to be read
 pub TakesFront-full : (left after : Option (List ℕ)) (bytes : List ℕ) (n : ℕ) → length bytes ≡ n → Reads left after bytes → TakesFront n left after bytes
@@ -40,8 +41,7 @@ TakesFront-end None mid after bytes buffer n le some reads gives = tt
 TakesFront-end (Some left) mid after bytes buffer n le some reads gives =
     let last = subst (λ (m : Option (List ℕ)). Gives m after 0 buffer) reads.2 gives in
     let gone : reads.0 ≡ [] = last.3 some refl in
-    let whole : left ≡ bytes = reads.1 ∙ ap (λ (t : List ℕ). bytes ++ t) gone ∙ append-nil bytes in
-    (
+    let whole : left ≡ bytes = reads.1 ∙ ap (λ (t : List ℕ). bytes ++ t) gone ∙ append-nil bytes in (
       sym (ap (take n) whole ∙ take_all n bytes le),
       last.2 ∙ ap Some (gone ∙ sym (ap (drop n) whole ∙ drop_all n bytes le)),
     )

@@ -5,11 +5,10 @@
 mod run;
 mod show;
 mod status;
-mod transfer;
-mod words;
-
 #[cfg(test)]
 mod tests;
+mod transfer;
+mod words;
 
 use dp_base::{StdSink, StdSource};
 use run::run;

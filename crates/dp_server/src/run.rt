@@ -34,7 +34,7 @@ pub fn run<I: Source, O: Sink>(
     // The whole input is a list, and the listing of its ring at the moment is written.
     ensures done { result.status ≡ Done → IsShowAnd (map string_bytes words.now)
         (λ moment. Shows moment (I.left input.old) (I.left input.new)
-            (Writes (O.written output.old) (O.written output.new))) }
+        (Writes (O.written output.old) (O.written output.new))) }
 
     // Bad words come first, and then nothing is read or written.
     ensures bad_words { (result.status ≡ BadWords) ↔ ¬ IsLawful (map string_bytes words.now) }
@@ -51,7 +51,7 @@ pub fn run<I: Source, O: Sink>(
     // After a failed write a front of that listing is written.
     ensures front { result.status ≡ WriteFault → IsShowAnd (map string_bytes words.now)
         (λ moment. Shows moment (I.left input.old) (I.left input.new)
-            (WritesFront (O.written output.old) (O.written output.new))) }
+        (WritesFront (O.written output.old) (O.written output.new))) }
 
     // A list of elements is accepted, and nothing else is.
     ensures accepted { IsLawful (map string_bytes words.now)

@@ -58,12 +58,7 @@ fn listing_at(alloc: Global, list: ElementList, now: u64) -> Result<String, Memo
 
 /// Reads a list of elements, and writes the listing of its ring at the moment, in ticks. Nothing is
 /// written unless the whole input is a list.
-pub fn show<I: Source, O: Sink>(
-    alloc: Global,
-    moment: u64,
-    input: &mut I,
-    output: &mut O,
-) -> Status
+pub fn show<I: Source, O: Sink>(alloc: Global, moment: u64, input: &mut I, output: &mut O) -> Status
     ensures words { result ≢ BadWords }
     ensures done { result ≡ Done → Shows moment (I.left input.old) (I.left input.new)
         (Writes (O.written output.old) (O.written output.new)) }

@@ -1,5 +1,4 @@
 use super::*;
-
 use dp_base::{MemSink, MemSource};
 use std::alloc::Global;
 use std::test::Fail;
@@ -71,8 +70,14 @@ fn no_keys(rt: HostRuntime) -> Result<(), Fail> {
     let table = [
         ("0", "ring 0 elements at 0\n"),
         ("1000", "ring 0 elements at 1000\n"),
-        ("3152225375999999999", "ring 0 elements at 3152225375999999999\n"),
-        ("3155378975999999999", "ring 0 elements at 3152225375999999999\n"),
+        (
+            "3152225375999999999",
+            "ring 0 elements at 3152225375999999999\n",
+        ),
+        (
+            "3155378975999999999",
+            "ring 0 elements at 3152225375999999999\n",
+        ),
     ];
     for (moment, first) in table {
         let alloc = rt.alloc();

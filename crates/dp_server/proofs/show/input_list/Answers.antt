@@ -1,4 +1,4 @@
-use Rattle.std.proofs.Common.{List, ap, sym, subst}
+use Rattle.std.proofs.Common.{ap}
 use Rattle.key_elements.specs.Record.{IsList}
 use Rattle.dp_server.specs.Statuses.{refusal_status}
 use Rattle.dp_server.proofs.Lengths.{IsWhole-front, none-front}

@@ -1,6 +1,6 @@
-use Rattle.std.proofs.Common.{◌≡◌, ◌+◌, ◌-◌, ◌<◌, ◌≤◌, ◌++◌, length, take, min, arith}
+use Rattle.std.proofs.Common.{◌+◌, ◌-◌, ◌<◌, ◌≤◌, ◌++◌, length, take, arith}
 use Rattle.std.proofs.lemmas.List.{length-append, length-take}
-use Rattle.dp_server.specs.declared.transfer.TheConstants.{MAX_INPUT, PIECE}
+use Rattle.dp_server.specs.declared.transfer.TheConstants.{MAX_INPUT}
 use Rattle.dp_server.proofs.InTurn.{Reads-more, TakesFront-full, TakesFront-end, TakesAtMost-reads, TakesAtMost-front, TakesAtMost-kept}
 use Rattle.dp_server.proofs.transfer.read_input.Goals as goal
 
@@ -22,9 +22,9 @@ pub returns-in_err-extend_from_slice-clause-takes : goal.returns-in_err-extend_f
 returns-in_err-extend_from_slice-clause-takes g c =
     let reads = Reads-more _ _ _ c.loop-buffer.bytes.items c.read.new.buffer c.in_ok-count.count c.loop-buffer.invariant.reads c.in_ok-count.ensures.bytes in
     let few : length c.read.new.buffer ≤ MAX_INPUT + 1 - length c.loop-buffer.bytes.items =
-        omega (arith, c.read.auto.buffer, c.min-room.ensures, length-take c.min-room.result c.loop-buffer.buffer, c.loop-buffer.invariant.room) in
+    omega (arith, c.read.auto.buffer, c.min-room.ensures, length-take c.min-room.result c.loop-buffer.buffer, c.loop-buffer.invariant.room) in
     let le : length (c.loop-buffer.bytes.items ++ take c.in_ok-count.count c.read.new.buffer) ≤ MAX_INPUT + 1 =
-        omega (arith, c.loop-buffer.invariant.within, length-append c.loop-buffer.bytes.items (take c.in_ok-count.count c.read.new.buffer), length-take c.in_ok-count.count c.read.new.buffer, c.in_ok-count.ensures.bound, few) in
+    omega (arith, c.loop-buffer.invariant.within, length-append c.loop-buffer.bytes.items (take c.in_ok-count.count c.read.new.buffer), length-take c.in_ok-count.count c.read.new.buffer, c.in_ok-count.ensures.bound, few) in
     TakesAtMost-reads _ _ _ _ le reads
 
 pub returns-clause-value : goal.returns-clause-value

@@ -1,4 +1,5 @@
-"""Megabytes a second of the library and of OpenSSL, and their ratio, each the best of a few runs."""
+"""Megabytes a second of the library and of OpenSSL, and their ratio, each the best of a few runs; and
+the keyed hashes beside the hash functions under them."""
 
 import os
 import subprocess
@@ -51,6 +52,11 @@ def main():
     for name, call, words in rows:
         mine, theirs = ours(call), openssl(*words)
         print(f"{name:22} {mine:8.1f} MB/s, OpenSSL {theirs:8.1f} MB/s, ratio {mine / theirs:.3f}")
+    for size in (256, 512):
+        keyed = ours(lambda: library.hmac(size, key, text, SIZE))
+        alone = ours(lambda: library.digest(size, text))
+        name = f"HMAC-SHA-{size}"
+        print(f"{name:22} {keyed:8.1f} MB/s, SHA-{size} alone {alone:8.1f} MB/s, ratio {keyed / alone:.3f}")
 
 
 if __name__ == "__main__":

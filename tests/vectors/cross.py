@@ -47,6 +47,8 @@ def keyed(draw, size):
         value = library.hmac(size, key, text, draw.randrange(length + 1))
         wanted = hmac.new(key, text, getattr(hashlib, f"sha{size}")).digest()
         assert value == wanted, (size, length)
+        digest = library.digest(size, text)
+        assert digest == getattr(hashlib, f"sha{size}")(text).digest(), (size, length)
     return LONGEST + 1
 
 

@@ -10,7 +10,7 @@ for _name in ("dp_aes_encrypt", "dp_aes_decrypt"):
     getattr(_LIBRARY, _name).restype = ctypes.c_bool
 for _name in ("dp_cbc_seal", "dp_cbc_open"):
     getattr(_LIBRARY, _name).restype = ctypes.c_uint32
-for _name in ("dp_hmac_sha256", "dp_hmac_sha512"):
+for _name in ("dp_hmac_sha256", "dp_hmac_sha512", "dp_sha256", "dp_sha512"):
     getattr(_LIBRARY, _name).restype = None
 
 ANSWERS = ("done", "bad key length", "bad length", "bad padding", "memory", "no room")
@@ -63,4 +63,11 @@ def hmac(size, key, text, cut):
     getattr(_LIBRARY, f"dp_hmac_sha{size}")(
         *_slice(key), *_slice(text[:cut]), *_slice(text[cut:]), out
     )
+    return out.raw
+
+
+def digest(size, text):
+    """The digest of so many bits."""
+    out = ctypes.create_string_buffer(size // 8)
+    getattr(_LIBRARY, f"dp_sha{size}")(*_slice(text), out)
     return out.raw

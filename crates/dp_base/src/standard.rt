@@ -1,6 +1,6 @@
 //! Standard input and output. What they hold is not told.
 
-ghost use Rattle.std.specs.Prelude.{None};
+ghost use Rattle.std.specs.Prelude.{◌≡◌, None};
 
 use crate::sink::Sink;
 use crate::source::{Failed, Source};
@@ -14,8 +14,10 @@ pub struct StdSource {
 }
 
 impl StdSource {
-    /// Standard input of the runtime.
-    pub fn new(rt: &HostRuntime) -> StdSource {
+    /// Standard input of the runtime. It has counted no fault.
+    pub fn new(rt: &HostRuntime) -> StdSource
+        ensures { ⟦<StdSource as Source>⟧.faults result ≡ 0 }
+    {
         StdSource {
             stdin: rt.stdin(),
             faults: 0,
@@ -49,8 +51,10 @@ pub struct StdSink {
 }
 
 impl StdSink {
-    /// Standard output of the runtime.
-    pub fn new(rt: &HostRuntime) -> StdSink {
+    /// Standard output of the runtime. It has counted no fault.
+    pub fn new(rt: &HostRuntime) -> StdSink
+        ensures { ⟦<StdSink as Sink>⟧.faults result ≡ 0 }
+    {
         StdSink {
             stdout: rt.stdout(),
             faults: 0,

@@ -5,4 +5,5 @@
 
 mod aes;
 mod cbc;
+mod digest;
 mod keyed_hash;

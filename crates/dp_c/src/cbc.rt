@@ -37,8 +37,8 @@ pub extern "C" fn dp_cbc_seal(
     out: &mut [u8],
     written: &mut usize,
 ) -> u32
-    ensures done { result ≡ DONE
-        → take written.new out.new ≡ ciphertext (aes_cipher key.now) iv.now (pad plain.now) }
+    ensures done { result ≡ DONE → (written.new ≤ length out.new)
+        × (take written.new out.new ≡ ciphertext (aes_cipher key.now) iv.now (pad plain.now)) }
     ensures bad_key_length { (result ≡ BAD_KEY_LENGTH) ↔ ¬ (IsKeyLength (length key.now)) }
     ensures no_room { result ≡ NO_ROOM
         → length out.old < length (ciphertext (aes_cipher key.now) iv.now (pad plain.now)) }
@@ -67,8 +67,8 @@ pub extern "C" fn dp_cbc_open(
     out: &mut [u8],
     written: &mut usize,
 ) -> u32
-    ensures done { result ≡ DONE
-        → body.now ≡ ciphertext (aes_cipher key.now) iv.now (pad (take written.new out.new)) }
+    ensures done { result ≡ DONE → (written.new ≤ length out.new)
+        × (body.now ≡ ciphertext (aes_cipher key.now) iv.now (pad (take written.new out.new))) }
     ensures bad_key_length { (result ≡ BAD_KEY_LENGTH) ↔ ¬ (IsKeyLength (length key.now)) }
     ensures bad_length { (result ≡ BAD_LENGTH) ↔ (IsKeyLength (length key.now)
         × ((length body.now ≡ 0) ⊎ (length body.now % 16 ≢ 0))) }
@@ -97,7 +97,8 @@ pub extern "C" fn dp_cbc_open(
 // Copies the bytes to the front of the room.
 fn hand_out(bytes: &[u8], out: &mut [u8], written: &mut usize) -> u32
     ensures done { (result ≡ DONE) ⊎ ((result ≡ NO_ROOM) × (length out.old < length bytes.now)) }
-    ensures bytes { result ≡ DONE → take written.new out.new ≡ bytes.now }
+    ensures bytes { result ≡ DONE
+        → (written.new ≤ length out.new) × (take written.new out.new ≡ bytes.now) }
     ensures unchanged { result ≡ NO_ROOM → (out.new ≡ out.old) × (written.new ≡ written.old) }
 {
     if out.len() < bytes.len() {

@@ -114,6 +114,19 @@ class Key:
 FORMS = [Key]
 
 
+def form_known(name, is_known):
+    """The form of record that is known by what has this name."""
+    for form in FORMS:
+        if is_known(form):
+            return form
+    raise Refused(f"{name} begins no record")
+
+
+def check_room(records):
+    if len(records) == MAX_RECORDS:
+        raise Refused(f"a list has at most {MAX_RECORDS} records")
+
+
 def of_text(text):
     """The records of a text."""
     records = []
@@ -122,11 +135,8 @@ def of_text(text):
         if not words:
             continue
         try:
-            form = next((it for it in FORMS if it.word == words[0]), None)
-            if form is None:
-                raise Refused(f"{words[0]} begins no record")
-            if len(records) == MAX_RECORDS:
-                raise Refused(f"a list has at most {MAX_RECORDS} records")
+            check_room(records)
+            form = form_known(words[0], lambda it: it.word == words[0])
             records.append(form.of_words(words))
         except Refused as why:
             raise Refused(f"line {number}: {why}")
@@ -140,12 +150,9 @@ def of_list(data):
     while reader.place < len(data):
         place = reader.place
         try:
-            if len(records) == MAX_RECORDS:
-                raise Refused(f"a list has at most {MAX_RECORDS} records")
+            check_room(records)
             first = reader.take_number(1)
-            form = next((it for it in FORMS if it.first == first), None)
-            if form is None:
-                raise Refused(f"the byte {first} begins no record")
+            form = form_known(f"the byte {first}", lambda it: it.first == first)
             records.append(form.of_bytes(reader))
         except Refused as why:
             raise Refused(f"record at byte {place}: {why}")

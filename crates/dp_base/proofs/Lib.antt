@@ -1,2 +1,5 @@
 pub mod Bytes
 pub mod Guid
+pub mod Parts
+pub mod Split
+pub mod Sums

@@ -2,6 +2,7 @@
 
 ghost use Rattle.std.specs.Prelude.{◌≡◌, ◌↔◌, IsNone, IfSome};
 ghost use Rattle.dp_base.specs.Codes.{IsCode, code_of, size_place};
+ghost use Rattle.dp_base.specs.Lengths.{iv_len, tag_len};
 
 /// The size of an AES key (FIPS 197, section 5).
 #[derive(Clone, Copy, Debug, PartialEq, Eq)]
@@ -49,6 +50,28 @@ pub fn code_of(alg: Alg) -> u8
         Alg::Cbc256(size) => place_of(size),
         Alg::Cbc512(size) => 3 + place_of(size),
         Alg::Gcm(size) => 6 + place_of(size),
+    }
+}
+
+/// The bytes of an initialization vector: a block for CBC (SP 800-38A, 5.3), and for GCM the nonce of
+/// 96 bits (SP 800-38D, 5.2.1.1).
+pub fn iv_len(alg: Alg) -> usize
+    ensures { result ≡ iv_len alg }
+{
+    match alg {
+        Alg::Cbc256(_) | Alg::Cbc512(_) => 16,
+        Alg::Gcm(_) => 12,
+    }
+}
+
+/// The bytes of a tag: those of a whole HMAC (FIPS 198-1) over the hash function, or GCM's 128 bits.
+pub fn tag_len(alg: Alg) -> usize
+    ensures { result ≡ tag_len alg }
+{
+    match alg {
+        Alg::Cbc256(_) => 32,
+        Alg::Cbc512(_) => 64,
+        Alg::Gcm(_) => 16,
     }
 }
 

@@ -14,8 +14,9 @@ mod source;
 mod standard;
 mod ticks;
 mod want;
+mod xor;
 
-pub use alg::{AesSize, Alg, alg_of, code_of};
+pub use alg::{AesSize, Alg, alg_of, code_of, iv_len, tag_len};
 pub use cipher::{BlockCipher, Prf};
 pub use fields::{be32, be64, take_be32, take_be64};
 pub use grows::Grows;
@@ -27,6 +28,7 @@ pub use source::{Failed, Source};
 pub use standard::{StdSink, StdSource};
 pub use ticks::{LAST, MAX_TICKS, TICKS_PER_DAY};
 pub use want::Memory;
+pub use xor::xor_into;
 
 #[cfg(test)]
 mod tests;

@@ -78,3 +78,24 @@ fn writing_in_pieces(rt: HostRuntime) -> Result<(), Fail> {
     assert_eq!(rt; sink.into_bytes().as_slice(), [1, 2, 3].as_slice());
     Ok(())
 }
+
+// docs/FORMATS.md, "Algorithm codes".
+#[test]
+fn lengths(rt: HostRuntime) {
+    let table = [
+        (Alg::Cbc256(AesSize::A128), 16, 32),
+        (Alg::Cbc512(AesSize::A192), 16, 64),
+        (Alg::Gcm(AesSize::A256), 12, 16),
+    ];
+    for (alg, iv, tag) in table {
+        assert_eq!(rt; iv_len(alg), iv, "{alg:?}");
+        assert_eq!(rt; tag_len(alg), tag, "{alg:?}");
+    }
+}
+
+#[test]
+fn sum_of_bytes(rt: HostRuntime) {
+    let mut bytes = [0x0f, 0xff, 0x80];
+    xor_into(&mut bytes, &[0xff, 0xff, 0x01, 0x55]);
+    assert_eq!(rt; bytes, [0xf0, 0x00, 0x81]);
+}

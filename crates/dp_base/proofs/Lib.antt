@@ -3,3 +3,4 @@ pub mod Guid
 pub mod Parts
 pub mod Split
 pub mod Sums
+pub mod Sevens

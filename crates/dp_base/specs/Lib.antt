@@ -5,4 +5,6 @@ pub mod Guid
 pub mod Lengths
 pub mod Memory
 pub mod Split
+pub mod Readers
+pub mod SevenBit
 pub mod Streams

@@ -1,6 +1,9 @@
+pub mod Buffers
 pub mod Bytes
+pub mod Draws
 pub mod Guid
+pub mod KnownBytes
 pub mod Parts
+pub mod Sevens
 pub mod Split
 pub mod Sums
-pub mod Sevens

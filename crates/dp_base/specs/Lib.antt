@@ -1,10 +1,12 @@
 pub mod Blocks
+pub mod Clocks
 pub mod Codes
 pub mod Counts
+pub mod Draws
 pub mod Guid
 pub mod Lengths
-pub mod Memory
-pub mod Split
 pub mod Readers
 pub mod SevenBit
+pub mod Split
 pub mod Streams
+pub mod Transfer

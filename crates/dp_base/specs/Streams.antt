@@ -1,14 +1,46 @@
--- What a call of a source or a sink moved. The bytes are told, or they are not.
-use Rattle.std.specs.Prelude.{◌≡◌, ℕ, ◌<◌, ◌≤◌, List, [], ◌++◌, length, take, drop, Option, Some, None}
+-- A source and a sink in memory, as clauses see them, and what a call leaves of them.
+use Rattle.std.specs.Prelude.{ℕ, Bool, List, ◌++◌, ◌==◌, length, drop, min}
+use Rattle.std.specs.List.{list_any}
+use Rattle.dp_base.specs.Counts.{one_more}
 
--- n bytes went from the front of what is left into the front of the buffer; none only at the end
-abbrev pub Gives : Option (List ℕ) → Option (List ℕ) → ℕ → List ℕ → Type 0
-Gives None new n buffer = Unit {0}
-Gives (Some left) new n buffer =
-    (n ≤ length left) × (take n buffer ≡ take n left) × (new ≡ Some (drop n left))
-    × (0 < length buffer → n ≡ 0 → left ≡ [])
+pub record Input : Type 0 where
+  -- the bytes left
+  pub left : List ℕ
+  -- the most bytes that a call moves
+  pub piece : ℕ
+  -- the numbers of the calls that are to fail, from 0
+  pub fail : List ℕ
+  pub calls : ℕ
+  pub faults : ℕ
 
--- n bytes went from the front of the piece to the end of what is written
-abbrev pub Takes : Option (List ℕ) → Option (List ℕ) → ℕ → List ℕ → Type 0
-Takes None new n piece = Unit {0}
-Takes (Some written) new n piece = new ≡ Some (written ++ take n piece)
+pub record Output : Type 0 where
+  -- the bytes written
+  pub written : List ℕ
+  pub piece : ℕ
+  pub fail : List ℕ
+  pub calls : ℕ
+  pub faults : ℕ
+
+-- whether the call of this number is to fail
+abbrev pub fails : List ℕ → ℕ → Bool
+fails fail call = list_any (λ n. n == call) fail
+
+-- how many bytes a read into so much room moves
+abbrev pub moved : Input → ℕ → ℕ
+moved s room = min (min s.piece room) (length s.left)
+
+-- a read that moved n bytes
+abbrev pub read_leaves : Input → ℕ → Input
+read_leaves s n = record s { calls = one_more s.calls; left = drop n s.left }
+
+-- a read that failed
+abbrev pub read_failed : Input → Input
+read_failed s = record s { calls = one_more s.calls; faults = one_more s.faults }
+
+-- a write that took these bytes
+abbrev pub write_leaves : Output → List ℕ → Output
+write_leaves s bytes = record s { calls = one_more s.calls; written = s.written ++ bytes }
+
+-- a write that took none
+abbrev pub write_failed : Output → Output
+write_failed s = record s { calls = one_more s.calls; faults = one_more s.faults }

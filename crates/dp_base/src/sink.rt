@@ -1,8 +1,8 @@
 //! Where output goes.
 
-ghost use Rattle.std.specs.Prelude.{◌≡◌, ℕ, ◌≤◌, ◌<◌, List, Option, IfOk, OnErr, length};
-ghost use Rattle.dp_base.specs.Counts.{Rises};
-ghost use Rattle.dp_base.specs.Streams.{Takes};
+ghost use Rattle.std.specs.Prelude.{◌≡◌, ℕ, ◌≤◌, ◌<◌, List, Option, IfOk, OnOk, OnErr, length};
+ghost use Rattle.std.specs.Io.KnownBytes.{WriteAppends};
+ghost use Rattle.dp_base.specs.Counts.{one_more};
 
 use crate::source::Failed;
 
@@ -19,8 +19,10 @@ pub trait Sink {
     fn write(&mut self, piece: &[u8]) -> Result<usize, Failed>
         ensures bound { IfOk result (λ n. n ≤ length piece.now) }
         ensures some { IfOk result (λ n. 0 < length piece.now → 0 < n) }
-        ensures bytes { IfOk result (λ n. Takes (written self.old) (written self.new) n piece.now) }
-        ensures kept { OnErr result (written self.new ≡ written self.old) }
-        ensures never_falls { faults self.old ≤ faults self.new }
-        ensures cause { OnErr result (Rises (faults self.old) (faults self.new)) };
+
+        // The front of the piece stands behind what was written, and a failure adds nothing.
+        ensures bytes { WriteAppends (written self.old) (written self.new) result piece.now }
+
+        ensures no_fault { OnOk result (faults self.new ≡ faults self.old) }
+        ensures fault { OnErr result (faults self.new ≡ one_more (faults self.old)) };
 }

@@ -1,8 +1,8 @@
 //! Where input comes from.
 
-ghost use Rattle.std.specs.Prelude.{◌≡◌, ℕ, ◌≤◌, ◌<◌, List, Option, IfOk, OnErr, length};
-ghost use Rattle.dp_base.specs.Counts.{Rises};
-ghost use Rattle.dp_base.specs.Streams.{Gives};
+ghost use Rattle.std.specs.Prelude.{◌≡◌, ℕ, ◌≤◌, List, Option, IfOk, OnOk, OnErr, length};
+ghost use Rattle.std.specs.Io.KnownBytes.{ReadConsumes};
+ghost use Rattle.dp_base.specs.Counts.{one_more};
 
 /// A call on the outside that did not do its work.
 #[derive(Clone, Copy, Debug, PartialEq, Eq)]
@@ -20,8 +20,10 @@ pub trait Source {
     /// is the end of input.
     fn read(&mut self, buffer: &mut [u8]) -> Result<usize, Failed>
         ensures bound { IfOk result (λ n. n ≤ length buffer.new) }
-        ensures bytes { IfOk result (λ n. Gives (left self.old) (left self.new) n buffer.new) }
-        ensures kept { OnErr result (left self.new ≡ left self.old) }
-        ensures never_falls { faults self.old ≤ faults self.new }
-        ensures cause { OnErr result (Rises (faults self.old) (faults self.new)) };
+
+        // The bytes are the next of those left, and a failure takes none.
+        ensures bytes { ReadConsumes (left self.old) (left self.new) result buffer.new }
+
+        ensures no_fault { OnOk result (faults self.new ≡ faults self.old) }
+        ensures fault { OnErr result (faults self.new ≡ one_more (faults self.old)) };
 }

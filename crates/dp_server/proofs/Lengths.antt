@@ -1,7 +1,6 @@
 -- The bytes of a list of elements are at most as many as are read.
 use Rattle.std.proofs.Common.{◌≡◌, ℕ, ◌+◌, ◌*◌, ◌≤◌, List, [], ◌∷◌, ◌++◌, length, take, Option, Some, None, sym, ap, subst, ◌∙◌, arith}
 use Rattle.std.specs.List.{flat_map, AllByRecursion}
-use Rattle.std.specs.Option.{IfSome}
 use Rattle.std.proofs.lemmas.List.{length-append, length-take, take_all, drop_all}
 use Rattle.dp_base.specs.Guid.{guid}
 use Rattle.dp_base.proofs.Guid.{length-guid}
@@ -9,8 +8,8 @@ use Rattle.key_elements.specs.declared.element.Element.{Element}
 use Rattle.key_elements.specs.declared.element.Element.TheVariants.{Key}
 use Rattle.key_elements.specs.Record.{date, key_fields, record_of, IsElement, IsList}
 use Rattle.dp_server.specs.declared.transfer.TheConstants.{MAX_RECORD, MAX_INPUT}
-use Rattle.dp_server.specs.Transfer.{TakesFront}
-use Rattle.dp_server.specs.Show.{IsListed, IsWhole}
+use Rattle.dp_base.specs.Transfer.{TakesFront}
+use Rattle.dp_server.specs.Show.{IsRefused, IsWhole}
 
 length-record-le : (e : Element) → IsElement e → length (record_of e) ≤ MAX_RECORD
 unfolding key_fields
@@ -43,10 +42,13 @@ IsWhole-front (Some left) after bytes es front list =
     let all = whole left bytes front.0 (length-list-le bytes es list) in
     (subst (λ (t : List ℕ). IsList t es) all.1 list, front.1 ∙ ap Some (drop_all (MAX_INPUT + 1) left all.0))
 
--- where the front is no list, the whole input is none
-pub none-front : (left after : Option (List ℕ)) (bytes : List ℕ) → TakesFront (MAX_INPUT + 1) left after bytes → ((es : List Element) → IsList bytes es → ⊥)
-    → IfSome left (λ all. IsListed all → ⊥)
-none-front None after bytes front none = tt
-none-front (Some left) after bytes front none = λ listed.
-    let few = length-list-le left listed.0 listed.1 in
-    none listed.0 (subst (λ (t : List ℕ). IsList t listed.0) (sym (front.0 ∙ take_all (MAX_INPUT + 1) left (omega arith))) listed.1)
+-- where the front is no list, the whole input is none, and all was read
+pub IsRefused-front : (left after : Option (List ℕ)) (bytes : List ℕ) → TakesFront (MAX_INPUT + 1) left after bytes → ((es : List Element) → IsList bytes es → ⊥)
+    → IsRefused left after
+IsRefused-front None after bytes front none = tt
+IsRefused-front (Some left) after bytes front none = (
+  λ listed.
+      let few = length-list-le left listed.0 listed.1 in
+      none listed.0 (subst (λ (t : List ℕ). IsList t listed.0) (sym (front.0 ∙ take_all (MAX_INPUT + 1) left (omega arith))) listed.1),
+  front.1,
+)

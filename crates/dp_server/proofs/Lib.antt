@@ -1,4 +1,3 @@
 pub mod Decimals
-pub mod InTurn
 pub mod Lawful
 pub mod Lengths

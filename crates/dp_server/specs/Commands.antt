@@ -6,4 +6,4 @@ use Rattle.dp_server.specs.Words.{IsShow}
 
 -- the words ask for the command
 abbrev pub IsCommand : List (List ℕ) → Command → Type 0
-IsCommand words (Show now) = IsShow words now
+IsCommand words (Show moment) = IsShow words moment

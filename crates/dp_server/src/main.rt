@@ -18,7 +18,7 @@ use std::io::ErrorKind;
 use std::process::ExitCode;
 
 // The words behind the name of the program. Words that are no text are of no lawful form.
-fn words_of(rt: &HostRuntime) -> Result<Vec<String>, Status> {
+fn process_words(rt: &HostRuntime) -> Result<Vec<String>, Status> {
     let mut words = Vec::new(rt.alloc());
     let args = match env::args(rt) {
         Ok(args) => args,
@@ -34,8 +34,8 @@ fn words_of(rt: &HostRuntime) -> Result<Vec<String>, Status> {
 }
 
 // Runs over the standard streams.
-fn status_of(rt: &HostRuntime) -> Status {
-    let words = match words_of(rt) {
+fn run_here(rt: &HostRuntime) -> Status {
+    let words = match process_words(rt) {
         Ok(words) => words,
         Err(status) => return status,
     };
@@ -45,7 +45,7 @@ fn status_of(rt: &HostRuntime) -> Status {
 }
 
 fn main(rt: HostRuntime) -> ExitCode {
-    let status = status_of(&rt);
+    let status = run_here(&rt);
     if let Some(message) = status.message() {
         let _ = rt.eprintln(message);
     }

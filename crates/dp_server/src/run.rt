@@ -1,13 +1,13 @@
 //! The top call.
 
-ghost use Rattle.std.specs.Prelude.{◌≡◌, ◌≢◌, ◌+◌, ◌≤◌, ◌↔◌, IfSome, map, string_bytes};
-ghost use Rattle.dp_base.specs.Counts.{Rises};
+ghost use Rattle.std.specs.Prelude.{◌≡◌, ◌≢◌, ◌+◌, ◌↔◌, IfSome, map, string_bytes};
+ghost use Rattle.dp_base.specs.Counts.{one_more};
 ghost use Rattle.dp_server.specs.declared.status.Status.TheVariants.{Done, BadWords, BadInput, ReadFault, WriteFault};
 ghost use Rattle.dp_server.specs.declared.transfer.TheConstants.{MAX_INPUT};
 ghost use Rattle.dp_server.specs.Words.{IsLawful};
 ghost use Rattle.dp_server.specs.Statuses.{IsAccepting, IsRefusing};
-ghost use Rattle.dp_server.specs.Transfer.{TakesAtMost, Writes, WritesFront};
-ghost use Rattle.dp_server.specs.Show.{IsListed, IsShowAnd, Shows};
+ghost use Rattle.dp_base.specs.Transfer.{TakesAtMost, Writes, WritesFront};
+ghost use Rattle.dp_server.specs.Show.{IsListed, IsRefused, IsShowAnd, Shows};
 
 use crate::show::show;
 use crate::status::Status;
@@ -41,19 +41,26 @@ pub fn run<I: Source, O: Sink>(
     ensures untouched { result.status ≡ BadWords
         → (input.new ≡ input.old) × (output.new ≡ output.old) }
 
+    // The whole input, or its front up to the limit, was read before it was refused.
     ensures bad_input { result.status ≡ BadInput
-        → IfSome (I.left input.old) (λ left. ¬ IsListed left) }
+        → IsRefused (I.left input.old) (I.left input.new) }
+
+    // One fault is counted where a read or a write failed, and none else.
     ensures read_fault { result.status ≡ ReadFault
-        → Rises (I.faults input.old) (I.faults input.new) }
+        → I.faults input.new ≡ one_more (I.faults input.old) }
+    ensures no_read_fault { result.status ≢ ReadFault
+        → I.faults input.new ≡ I.faults input.old }
     ensures write_fault { result.status ≡ WriteFault
-        → Rises (O.faults output.old) (O.faults output.new) }
+        → O.faults output.new ≡ one_more (O.faults output.old) }
+    ensures no_write_fault { result.status ≢ WriteFault
+        → O.faults output.new ≡ O.faults output.old }
 
     // After a failed write a front of that listing is written.
     ensures front { result.status ≡ WriteFault → IsShowAnd (map string_bytes words.now)
         (λ moment. Shows moment (I.left input.old) (I.left input.new)
         (WritesFront (O.written output.old) (O.written output.new))) }
 
-    // A list of elements is accepted, and nothing else is.
+    // A list of elements is accepted, and nothing else is; both follow from the clauses above.
     ensures accepted { IsLawful (map string_bytes words.now)
         → IfSome (I.left input.old) (λ left. IsListed left → IsAccepting result.status) }
     ensures refused { IsLawful (map string_bytes words.now)
@@ -61,11 +68,9 @@ pub fn run<I: Source, O: Sink>(
 
     ensures silent { result.status ≢ Done → result.status ≢ WriteFault → output.new ≡ output.old }
     ensures takes { TakesAtMost (MAX_INPUT + 1) (I.left input.old) (I.left input.new) }
-    ensures input_never_falls { I.faults input.old ≤ I.faults input.new }
-    ensures output_never_falls { O.faults output.old ≤ O.faults output.new }
 {
     let status = match command_of(words) {
-        Some(Command::Show { now }) => show(alloc, now, input, output),
+        Some(Command::Show { moment }) => show(alloc, moment, input, output),
         None => Status::BadWords,
     };
     Outcome { status }

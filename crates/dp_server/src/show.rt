@@ -2,24 +2,24 @@
 
 ghost use Rattle.std.specs.Prelude.{◌≡◌, ◌≢◌, ◌+◌, ◌≤◌, Err, IfOk, IfErr, IfSome, string_bytes};
 ghost use Rattle.dp_base.specs.declared.ticks.TheConstants.{LAST};
-ghost use Rattle.dp_base.specs.Counts.{Rises};
+ghost use Rattle.dp_base.specs.Counts.{one_more};
 ghost use Rattle.key_ring.specs.Listing.{listing};
 ghost use Rattle.dp_server.specs.declared.status.Status.TheVariants.{Done, BadWords, BadInput, ReadFault, WriteFault};
 ghost use Rattle.dp_server.specs.declared.transfer.TheConstants.{MAX_INPUT};
 ghost use Rattle.dp_server.specs.Statuses.{IsAccepting, IsRefusing, refusal_status};
-ghost use Rattle.dp_server.specs.Transfer.{TakesAtMost, Writes, WritesFront};
-ghost use Rattle.dp_server.specs.Show.{IsListed, IsWhole, Shows};
+ghost use Rattle.dp_base.specs.Transfer.{TakesAtMost, Writes, WritesFront};
+ghost use Rattle.dp_server.specs.Show.{IsListed, IsRefused, IsWhole, Shows};
 
 use crate::status::Status;
-use crate::transfer::{ReadRefused, read_input, write_all};
+use crate::transfer::{ReadRefused, read_input};
 use default_key::Options;
-use dp_base::{LAST, Memory, Sink, Source};
+use dp_base::{LAST, Memory, Sink, Source, write_all};
 use key_elements::{ElementList, ListRefused, read_list};
 use key_ring::Ring;
 use std::alloc::Global;
 
 // The status of input that was refused as a list.
-fn status_of(refused: ListRefused) -> Status
+fn refusal_status(refused: ListRefused) -> Status
     ensures { result ≡ refusal_status refused }
 {
     match refused {
@@ -32,10 +32,11 @@ fn status_of(refused: ListRefused) -> Status
 fn input_list<I: Source>(alloc: Global, input: &mut I) -> Result<ElementList, Status>
     ensures list { IfOk result (IsWhole (I.left input.old) (I.left input.new)) }
     ensures status { IfErr result IsRefusing }
-    ensures bad_input { result ≡ Err BadInput → IfSome (I.left input.old) (λ left. ¬ IsListed left) }
-    ensures read_fault { result ≡ Err ReadFault → Rises (I.faults input.old) (I.faults input.new) }
+    ensures bad_input { result ≡ Err BadInput → IsRefused (I.left input.old) (I.left input.new) }
+    ensures read_fault { result ≡ Err ReadFault
+        → I.faults input.new ≡ one_more (I.faults input.old) }
+    ensures no_read_fault { result ≢ Err ReadFault → I.faults input.new ≡ I.faults input.old }
     ensures takes { TakesAtMost (MAX_INPUT + 1) (I.left input.old) (I.left input.new) }
-    ensures never_falls { I.faults input.old ≤ I.faults input.new }
 {
     let bytes = match read_input(alloc, input) {
         Ok(bytes) => bytes,
@@ -44,16 +45,16 @@ fn input_list<I: Source>(alloc: Global, input: &mut I) -> Result<ElementList, St
     };
     match read_list(alloc, bytes.as_slice()) {
         Ok(list) => Ok(list),
-        Err(refused) => Err(status_of(refused)),
+        Err(refused) => Err(refusal_status(refused)),
     }
 }
 
 // The listing of the list's ring at the moment.
-fn listing_at(alloc: Global, list: ElementList, now: u64) -> Result<String, Memory>
-    requires { now ≤ LAST }
-    ensures { IfOk result (λ text. string_bytes text ≡ listing list now) }
+fn listing_at(alloc: Global, list: ElementList, made_at: u64) -> Result<String, Memory>
+    requires { made_at ≤ LAST }
+    ensures { IfOk result (λ text. string_bytes text ≡ listing list made_at) }
 {
-    Ring::of(alloc, list, now, 0, &Options::default())?.listing(alloc)
+    Ring::of(alloc, list, made_at, 0, &Options::default())?.listing(alloc)
 }
 
 /// Reads a list of elements, and writes the listing of its ring at the moment, in ticks. Nothing is
@@ -64,15 +65,16 @@ pub fn show<I: Source, O: Sink>(alloc: Global, moment: u64, input: &mut I, outpu
         (Writes (O.written output.old) (O.written output.new)) }
     ensures front { result ≡ WriteFault → Shows moment (I.left input.old) (I.left input.new)
         (WritesFront (O.written output.old) (O.written output.new)) }
-    ensures read_fault { result ≡ ReadFault → Rises (I.faults input.old) (I.faults input.new) }
-    ensures write_fault { result ≡ WriteFault → Rises (O.faults output.old) (O.faults output.new) }
-    ensures bad_input { result ≡ BadInput → IfSome (I.left input.old) (λ left. ¬ IsListed left) }
+    ensures read_fault { result ≡ ReadFault → I.faults input.new ≡ one_more (I.faults input.old) }
+    ensures no_read_fault { result ≢ ReadFault → I.faults input.new ≡ I.faults input.old }
+    ensures write_fault { result ≡ WriteFault
+        → O.faults output.new ≡ one_more (O.faults output.old) }
+    ensures no_write_fault { result ≢ WriteFault → O.faults output.new ≡ O.faults output.old }
+    ensures bad_input { result ≡ BadInput → IsRefused (I.left input.old) (I.left input.new) }
     ensures accepted { IfSome (I.left input.old) (λ left. IsListed left → IsAccepting result) }
     ensures refused { IfSome (I.left input.old) (λ left. ¬ IsListed left → IsRefusing result) }
     ensures silent { result ≢ Done → result ≢ WriteFault → output.new ≡ output.old }
     ensures takes { TakesAtMost (MAX_INPUT + 1) (I.left input.old) (I.left input.new) }
-    ensures input_never_falls { I.faults input.old ≤ I.faults input.new }
-    ensures output_never_falls { O.faults output.old ≤ O.faults output.new }
 {
     let list = match input_list(alloc, input) {
         Ok(list) => list,

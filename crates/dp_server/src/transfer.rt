@@ -1,11 +1,11 @@
-//! Reading all input, up to a limit, and writing all output.
+//! Reading all input, up to a limit.
 
-ghost use Rattle.std.specs.Prelude.{◌≡◌, ◌+◌, ◌≤◌, Err, IfOk, OnOk, OnErr};
-ghost use Rattle.dp_base.specs.Counts.{Rises};
+ghost use Rattle.std.specs.Prelude.{◌≡◌, ◌≢◌, ◌+◌, Err, IfOk};
+ghost use Rattle.dp_base.specs.Counts.{one_more};
 ghost use Rattle.dp_server.specs.declared.transfer.ReadRefused.TheVariants as reads;
-ghost use Rattle.dp_server.specs.Transfer.{TakesFront, TakesAtMost, Writes, WritesFront};
+ghost use Rattle.dp_base.specs.Transfer.{TakesFront, TakesAtMost};
 
-use dp_base::{Failed, Sink, Source};
+use dp_base::{Failed, Source};
 use key_elements::MAX_ELEMENTS;
 use std::alloc::{AllocError, Global};
 
@@ -47,9 +47,10 @@ impl From<AllocError> for ReadRefused {
 pub fn read_input<I: Source>(alloc: Global, input: &mut I) -> Result<Vec<u8>, ReadRefused>
     ensures value { IfOk result (λ bytes.
         TakesFront (MAX_INPUT + 1) (I.left input.old) (I.left input.new) bytes.items) }
-    ensures failed { result ≡ Err reads.Failed → Rises (I.faults input.old) (I.faults input.new) }
+    ensures fault { result ≡ Err reads.Failed
+        → I.faults input.new ≡ one_more (I.faults input.old) }
+    ensures no_fault { result ≢ Err reads.Failed → I.faults input.new ≡ I.faults input.old }
     ensures takes { TakesAtMost (MAX_INPUT + 1) (I.left input.old) (I.left input.new) }
-    ensures never_falls { I.faults input.old ≤ I.faults input.new }
 {
     let mut bytes = Vec::new(alloc);
     let mut buffer = [0; PIECE];
@@ -62,18 +63,4 @@ pub fn read_input<I: Source>(alloc: Global, input: &mut I) -> Result<Vec<u8>, Re
         bytes.extend_from_slice(&buffer[..count])?;
     }
     Ok(bytes)
-}
-
-/// Writes all the bytes.
-pub fn write_all<O: Sink>(output: &mut O, bytes: &[u8]) -> Result<(), Failed>
-    ensures ok { OnOk result (Writes (O.written output.old) (O.written output.new) bytes.now) }
-    ensures err { OnErr result (WritesFront (O.written output.old) (O.written output.new) bytes.now) }
-    ensures cause { OnErr result (Rises (O.faults output.old) (O.faults output.new)) }
-    ensures never_falls { O.faults output.old ≤ O.faults output.new }
-{
-    let mut at = 0;
-    while at < bytes.len() {
-        at += output.write(&bytes[at..])?;
-    }
-    Ok(())
 }

@@ -13,7 +13,7 @@ use dp_base::MAX_TICKS;
 #[derive(Clone, Copy, Debug, PartialEq, Eq)]
 pub enum Command {
     /// The listing at a moment in ticks, at most `MAX_TICKS`.
-    Show { now: u64 },
+    Show { moment: u64 },
 }
 
 // Whether the text has no sign, and no zero in front of more digits.
@@ -49,8 +49,8 @@ pub fn command_of(words: &[String]) -> Option<Command>
 {
     match words {
         [command, moment] if command.as_str() == "show" => {
-            let now = moment_of(moment.as_str())?;
-            Some(Command::Show { now })
+            let moment = moment_of(moment.as_str())?;
+            Some(Command::Show { moment })
         }
         _ => None,
     }

@@ -1,7 +1,7 @@
 use Rattle.std.proofs.Common.{ap}
 use Rattle.key_elements.specs.Record.{IsList}
 use Rattle.dp_server.specs.Statuses.{refusal_status}
-use Rattle.dp_server.proofs.Lengths.{IsWhole-front, none-front}
+use Rattle.dp_server.proofs.Lengths.{IsWhole-front, IsRefused-front}
 use Rattle.dp_server.proofs.show.input_list.Goals as goal
 
 pub returns-in-Ok-read_list-clause-list : goal.returns-in-Ok-read_list-clause-list
@@ -11,7 +11,7 @@ returns-in-Ok-read_list-clause-list g c =
 
 pub returns-clause-bad_input : goal.returns-clause-bad_input
 returns-clause-bad_input g c = λ e.
-    none-front _ _ c.in-Ok.bytes.items c.in-Ok.ensures.value (λ es list.
+    IsRefused-front _ _ c.in-Ok.bytes.items c.in-Ok.ensures.value (λ es list.
     let again : IsList c.as_slice.result.now es = rw c.as_slice.ensures.value list in
     let memory = c.in-Err.ensures.only es again in
-    absurd (cc (e, c.status_of.ensures, ap refusal_status memory)))
+    absurd (cc (e, c.refusal_status.ensures, ap refusal_status memory)))

@@ -2,7 +2,7 @@
 //! are told.
 
 ghost use Rattle.std.specs.Prelude.{◌≡◌, ◌<◌, ◌≤◌, ◌↔◌, ℕ, List, [], min, length, take, Some, IsTrue, IsErr, IfOk, OnErr};
-ghost use Rattle.dp_base.specs.Memory.{fails, moved, read_leaves, read_failed, write_leaves, write_failed};
+ghost use Rattle.dp_base.specs.Streams.{fails, moved, read_leaves, read_failed, write_leaves, write_failed};
 
 use crate::sink::Sink;
 use crate::source::{Failed, Source};
@@ -22,7 +22,7 @@ pub struct MemSource {
 
 impl Model for MemSource {
     ghost use Rattle.std.specs.Prelude.{◌≤◌, vec_len, drop};
-    ghost use Rattle.dp_base.specs.Memory.{Input};
+    ghost use Rattle.dp_base.specs.Streams.{Input};
 
     ghost Value = { Input };
 
@@ -73,7 +73,6 @@ impl Source for MemSource {
         ensures end { IfOk result (λ n. 0 < length buffer.new → n ≡ 0 → self.old.left ≡ []) }
         ensures ok { IfOk result (λ n. self.new ≡ read_leaves self.old n) }
         ensures err { OnErr result (self.new ≡ read_failed self.old) }
-        ensures never_falls { self.old.faults ≤ self.new.faults }
     {
         let call = self.calls;
         self.calls = call.saturating_add(1);
@@ -101,7 +100,7 @@ pub struct MemSink {
 
 impl Model for MemSink {
     ghost use Rattle.std.specs.Prelude.{◌≤◌};
-    ghost use Rattle.dp_base.specs.Memory.{Output};
+    ghost use Rattle.dp_base.specs.Streams.{Output};
 
     ghost Value = { Output };
 
@@ -165,7 +164,6 @@ impl Sink for MemSink {
         ensures some { IfOk result (λ n. 0 < length piece.now → 0 < n) }
         ensures ok { IfOk result (λ n. self.new ≡ write_leaves self.old (take n piece.now)) }
         ensures err { OnErr result (self.new ≡ write_failed self.old) }
-        ensures never_falls { self.old.faults ≤ self.new.faults }
     {
         let call = self.calls;
         self.calls = call.saturating_add(1);

@@ -1,0 +1,14 @@
+-- the bytes before `at` are written
+use Rattle.std.proofs.Common.{◌≡◌, ◌≤◌, ◌-◌, length, take}
+use Rattle.std.specs.Io.KnownBytes.{Appends}
+use Rattle.dp_base.proofs.transfer.write_all.Given as goal
+
+abbrev pub invariant-loop-at : goal.invariant-loop-at
+invariant-loop-at g l = record {
+  within : l.at ≤ length l.bytes;
+  written : Appends (g.O.Sink.written l.fn.output) (g.O.Sink.written l.output) (take l.at l.bytes);
+  no_fault : g.O.Sink.faults l.output ≡ g.O.Sink.faults l.fn.output;
+}
+
+abbrev pub decreases-loop-at : goal.decreases-loop-at
+decreases-loop-at g l = length l.bytes - l.at

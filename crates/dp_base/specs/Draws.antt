@@ -1,0 +1,34 @@
+-- What draws of random bytes give. What is to come and what was given is told, or it is not.
+use Rattle.std.specs.Prelude.{◌≡◌, ℕ, nat_le, if◌then◌else◌, List, [], ◌∷◌, ◌++◌, length, take, drop, Option, Some, None}
+use Rattle.dp_base.specs.declared.draw.TheConstants.{MAX_TAPE}
+use Rattle.dp_base.specs.Counts.{more}
+
+pub record DrawState : Type 0 where
+  -- the bytes to come, where they are told
+  pub coming : Option (List ℕ)
+  -- the bytes given so far, where they are told
+  pub given : Option (List ℕ)
+  -- how many calls failed
+  pub faults : ℕ
+
+-- these bytes were the next to come
+abbrev pub Comes : Option (List ℕ) → Option (List ℕ) → List ℕ → Type 0
+Comes None after bytes = after ≡ None
+Comes (Some coming) after bytes =
+    (bytes ≡ take (length bytes) coming) × (after ≡ Some (drop (length bytes) coming))
+
+-- the bytes, where they are few enough to be told
+abbrev pub tape : List ℕ → Option (List ℕ)
+tape bytes = if nat_le (length bytes) MAX_TAPE then Some bytes else None
+
+-- what is told of the bytes given, after these
+abbrev pub gave : Option (List ℕ) → List ℕ → Option (List ℕ)
+gave None bytes = None
+gave (Some given) [] = Some given
+gave (Some given) (b ∷ bytes) = tape (given ++ b ∷ bytes)
+
+-- calls gave these bytes, one after the other, and k of them failed
+pub record Draws (k : ℕ) (bytes : List ℕ) (old new : DrawState) : Type 0 where
+  pub coming : Comes old.coming new.coming bytes
+  pub given : new.given ≡ gave old.given bytes
+  pub faults : new.faults ≡ more k old.faults

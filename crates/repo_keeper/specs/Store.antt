@@ -1,18 +1,14 @@
 -- A repository as clauses see it: the list, where it is told, and counts of what its calls answered.
-use Rattle.std.specs.Prelude.{◌≡◌, ℕ, zero, suc, ◌+◌, ◌-◌, ◌^◌, ◌<◌, ◌≤◌, min, List, [], ◌∷◌, ◌++◌, length, take, drop, Option, Some, None, Result, Ok, Err, IfSome}
+use Rattle.std.specs.Prelude.{◌≡◌, ℕ, ◌+◌, ◌-◌, ◌<◌, ◌≤◌, List, [], ◌∷◌, ◌++◌, length, take, drop, Option, Some, None, Result, Ok, Err, IfSome}
 use Rattle.std.specs.List.{AllByRecursion}
 use Rattle.std.specs.declared.vec.Vec.{Vec}
 use Rattle.std.specs.declared.alloc.Global.{Global}
+pub use Rattle.dp_base.specs.Counts.{more}
 use Rattle.key_elements.specs.declared.element.Element.{Element}
 use Rattle.key_elements.specs.declared.list.TheConstants.{MAX_ELEMENTS}
 use Rattle.key_elements.specs.Record.{IsElement}
 use Rattle.repo_keeper.specs.declared.repo.RepoError.{RepoError}
 use Rattle.repo_keeper.specs.declared.repo.RepoError.TheVariants.{Failed, Short, Full, Memory}
-
--- a count after k more; it is kept in 64 bits and stands still at the greatest number
-abbrev pub more : ℕ → ℕ → ℕ
-more zero n = n
-more (suc k) n = min (n + suc k) (2 ^ 64 - 1)
 
 -- the first list is a front of the second
 abbrev pub Extends : List Element → List Element → Type 0

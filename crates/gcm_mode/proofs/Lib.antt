@@ -1,0 +1,4 @@
+pub mod Counting
+mod Facts
+pub mod Hashing
+pub mod Products

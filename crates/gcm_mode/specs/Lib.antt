@@ -1,0 +1,4 @@
+pub mod Ctr
+pub mod Gcm
+pub mod Ghash
+pub mod Product

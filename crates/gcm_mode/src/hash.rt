@@ -1,0 +1,59 @@
+//! GHASH (SP 800-38D, 6.4): a hash of blocks, keyed by a block.
+
+ghost use Rattle.std.specs.Prelude.{◌≡◌, ◌*◌, ◌-◌, ◌<◌, ◌≤◌, ◌^◌, ◌++◌, length, replicate};
+ghost use Rattle.std.specs.Int.{w64, to_be_bytes};
+ghost use Rattle.dp_base.specs.Split.{blocks};
+ghost use Rattle.gcm_mode.specs.Ghash.{ghash, hash_blocks, zero_filled};
+
+use crate::product::{block_of, number_of, product};
+use dp_base::be64;
+
+/// The hash under `h` of additional data and a text, each filled with zeros to whole blocks of 16
+/// bytes, and of their lengths in bits. Takes no memory. It works bit by bit, and not in constant
+/// time.
+pub fn ghash(h: &[u8; 16], aad: &[u8], text: &[u8]) -> [u8; 16]
+    requires aad { length aad.now < 2 ^ 32 }
+    requires text { length text.now < 2 ^ 32 }
+    ensures { result ≡ ghash h.now aad.now text.now }
+{
+    let key = number_of(h);
+    let state = absorbed(key, absorbed(key, 0, aad), text);
+    let lengths = length_block(aad.len(), text.len());
+    block_of(product(state ^ number_of(&lengths), key))
+}
+
+// The state after the bytes, filled with zeros to whole blocks.
+fn absorbed(key: u128, state: u128, bytes: &[u8]) -> u128
+    requires { length bytes.now < 2 ^ 32 }
+    ensures { result ≡ hash_blocks key state (blocks (zero_filled bytes.now)) }
+{
+    let mut y = state;
+    for i in 0..bytes.len().div_ceil(16) {
+        let end = bytes.len().min(16 * i + 16);
+        let block = filled(&bytes[16 * i..end]);
+        y = product(y ^ number_of(&block), key);
+    }
+    y
+}
+
+// The block that begins with the piece, and has zeros behind it.
+fn filled(piece: &[u8]) -> [u8; 16]
+    requires { length piece.now ≤ 16 }
+    ensures { result ≡ piece.now ++ replicate (16 - length piece.now) 0 }
+{
+    let mut block = [0; 16];
+    block[..piece.len()].copy_from_slice(piece);
+    block
+}
+
+// Two lengths in bytes, as numbers of bits.
+fn length_block(aad: usize, text: usize) -> [u8; 16]
+    requires aad { aad < 2 ^ 32 }
+    requires text { text < 2 ^ 32 }
+    ensures { result ≡ to_be_bytes w64 (8 * aad) ++ to_be_bytes w64 (8 * text) }
+{
+    let mut block = [0; 16];
+    block[..8].copy_from_slice(&be64(8 * aad as u64));
+    block[8..].copy_from_slice(&be64(8 * text as u64));
+    block
+}

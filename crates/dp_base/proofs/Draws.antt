@@ -1,8 +1,8 @@
 -- Draws, one after the other.
-use Rattle.std.proofs.Common.{◌≡◌, ℕ, zero, suc, ◌+◌, ◌-◌, ◌^◌, ◌<◌, ◌≤◌, min, List, [], ◌∷◌, ◌++◌, length, take, Option, Some, None, refl, sym, ap, subst, ◌∙◌, append_assoc, zero-add, add-zero, ⊎_elim, arith}
+use Rattle.std.proofs.Common.{◌≡◌, ℕ, zero, suc, ◌+◌, ◌-◌, ◌^◌, ◌<◌, ◌≤◌, min, nat_le, if◌then◌else◌, List, [], ◌∷◌, ◌++◌, length, take, Option, Some, None, refl, sym, ap, subst, ◌∙◌, append_assoc, zero-add, add-zero, ⊎_elim, arith}
 use Rattle.std.proofs.lemmas.Bool.{le-leb, lt-leb}
 use Rattle.std.proofs.lemmas.Bool.Decides.{leb_tells}
-use Rattle.std.proofs.lemmas.List.{length-append, append-nil, drop-drop}
+use Rattle.std.proofs.lemmas.List.{length-append, length-take-le, append-nil, take_at, drop-drop}
 use Rattle.std.proofs.Math.Seq.{take-add}
 use Rattle.dp_base.specs.Counts.{more}
 use Rattle.dp_base.specs.declared.draw.TheConstants.{MAX_TAPE}
@@ -23,6 +23,20 @@ tape-short bytes short = rw (le-leb (length bytes) MAX_TAPE short) refl
 
 tape-long : (bytes : List ℕ) → MAX_TAPE < length bytes → tape bytes ≡ None
 tape-long bytes long = rw (lt-leb (length bytes) MAX_TAPE long) refl
+
+-- few bytes more are told
+pub gave-short : (given bytes : List ℕ) → length (given ++ bytes) ≤ MAX_TAPE → gave (Some given) bytes ≡ Some (given ++ bytes)
+gave-short given [] short = ap Some (sym (append-nil given))
+gave-short given (b ∷ bytes) short = tape-short (given ++ b ∷ bytes) short
+
+-- a tape with room for more bytes keeps them
+pub kept : (count end : ℕ) (room bytes after : List ℕ) → length room ≡ MAX_TAPE → count ≤ MAX_TAPE → end ≡ count + length bytes → end ≤ MAX_TAPE
+    → (if nat_le end MAX_TAPE then Some (take end (take count room ++ (bytes ++ after))) else None) ≡ gave (if nat_le count MAX_TAPE then Some (take count room) else None) bytes
+kept count end room bytes after len within sum fits =
+    let front : length (take count room) ≡ count = length-take-le count room (omega arith) in
+    let both : length (take count room ++ bytes) ≡ end = omega (arith, length-append (take count room) bytes) in
+    rw (le-leb end MAX_TAPE fits, le-leb count MAX_TAPE within)
+    (ap Some (ap (take end) (sym (append_assoc (take count room) bytes after)) ∙ take_at (take count room ++ bytes) after end both) ∙ sym (gave-short (take count room) bytes (omega arith)))
 
 gave-nil : (told : Option (List ℕ)) → gave told [] ≡ told
 gave-nil None = refl
@@ -60,7 +74,7 @@ Comes-nil (Some coming) = (refl, refl)
 
 -- nothing was drawn
 pub Draws-none : (s : DrawState) → Draws 0 [] s s
-Draws-none s = record { coming = Comes-nil s.coming; given = sym (gave-nil s.given); faults = refl }
+Draws-none s = record { coming = Comes-nil s.coming; given = sym (gave-nil s.given); faults = refl; loan = refl }
 
 -- two draws are one of the bytes of both
 pub Draws-both : (j k : ℕ) (a b : List ℕ) (s t u : DrawState) → Draws j a s t → Draws k b t u → Draws (j + k) (a ++ b) s u
@@ -68,4 +82,5 @@ Draws-both j k a b s t u first second = record {
   coming = Comes-both s.coming t.coming u.coming a b first.coming second.coming;
   given = second.given ∙ ap (λ (g : Option (List ℕ)). gave g b) first.given ∙ gave-gave s.given a b;
   faults = second.faults ∙ ap (more k) first.faults ∙ more-more j k s.faults;
+  loan = second.loan ∙ first.loan;
 }

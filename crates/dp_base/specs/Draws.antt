@@ -1,5 +1,6 @@
 -- What draws of random bytes give. What is to come and what was given is told, or it is not.
 use Rattle.std.specs.Prelude.{◌≡◌, ℕ, nat_le, if◌then◌else◌, List, [], ◌∷◌, ◌++◌, length, take, drop, Option, Some, None}
+use Rattle.std.specs.Borrow.{GName}
 use Rattle.dp_base.specs.declared.draw.TheConstants.{MAX_TAPE}
 use Rattle.dp_base.specs.Counts.{more}
 
@@ -10,6 +11,8 @@ pub record DrawState : Type 0 where
   pub given : Option (List ℕ)
   -- how many calls failed
   pub faults : ℕ
+  -- which loan it stands on, where it stands on one
+  pub loan : Option GName
 
 -- these bytes were the next to come
 abbrev pub Comes : Option (List ℕ) → Option (List ℕ) → List ℕ → Type 0
@@ -32,3 +35,9 @@ pub record Draws (k : ℕ) (bytes : List ℕ) (old new : DrawState) : Type 0 whe
   pub coming : Comes old.coming new.coming bytes
   pub given : new.given ≡ gave old.given bytes
   pub faults : new.faults ≡ more k old.faults
+  pub loan : new.loan ≡ old.loan
+
+-- a lent draw, and what is told of the bytes that it gave since
+abbrev pub taped : DrawState → GName → Option (List ℕ) → DrawState
+taped lent name given =
+    record { coming = lent.coming; given = given; faults = lent.faults; loan = Some name }

@@ -44,3 +44,19 @@ write_leaves s bytes = record s { calls = one_more s.calls; written = s.written 
 -- a write that took none
 abbrev pub write_failed : Output → Output
 write_failed s = record s { calls = one_more s.calls; faults = one_more s.faults }
+
+pub record Coming : Type 0 where
+  -- the bytes to come
+  pub coming : List ℕ
+  -- the numbers of the calls that are to fail, from 0
+  pub fail : List ℕ
+  pub calls : ℕ
+  pub faults : ℕ
+
+-- a draw that gave n bytes
+abbrev pub draw_leaves : Coming → ℕ → Coming
+draw_leaves s n = record s { calls = one_more s.calls; coming = drop n s.coming }
+
+-- a draw that failed
+abbrev pub draw_failed : Coming → Coming
+draw_failed s = record s { calls = one_more s.calls; faults = one_more s.faults }

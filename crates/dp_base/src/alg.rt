@@ -1,8 +1,10 @@
 //! The algorithms of a key, and their codes in records.
 
-ghost use Rattle.std.specs.Prelude.{◌≡◌, ◌↔◌, IsNone, IfSome};
+ghost use Rattle.std.specs.Prelude.{◌≡◌, ◌↔◌, IsNone, IsErr, IfOk, IfSome};
 ghost use Rattle.dp_base.specs.Codes.{IsCode, code_of, size_place};
 ghost use Rattle.dp_base.specs.Lengths.{iv_len, tag_len};
+
+use thiserror::Error;
 
 /// The size of an AES key (FIPS 197, section 5).
 #[derive(Clone, Copy, Debug, PartialEq, Eq)]
@@ -39,6 +41,25 @@ pub fn alg_of(code: u8) -> Option<Alg>
         8 => Some(Alg::Gcm(AesSize::A192)),
         9 => Some(Alg::Gcm(AesSize::A256)),
         _ => None,
+    }
+}
+
+/// A code of no algorithm.
+#[derive(Clone, Copy, Debug, PartialEq, Eq, Error)]
+#[error("no algorithm has this code")]
+pub struct BadCode;
+
+impl TryFrom<u8> for Alg {
+    type Error = BadCode;
+
+    ghost try_from_gives = { λ code result.
+        (IsErr result ↔ ¬ IsCode code) × IfOk result (λ alg. code_of alg ≡ code) };
+
+    fn try_from(code: u8) -> Result<Alg, BadCode> {
+        match alg_of(code) {
+            Some(alg) => Ok(alg),
+            None => Err(BadCode),
+        }
     }
 }
 

@@ -1,11 +1,13 @@
 //! Ids of keys: 128-bit numbers, their .NET layout and their text.
 
-ghost use Rattle.std.specs.Prelude.{◌≡◌, ℕ, ◌<◌, ◌^◌, IfOk, string_bytes};
-ghost use Rattle.dp_base.specs.Guid.{guid, id_of_guid, key_text};
+ghost use Rattle.std.specs.Prelude.{◌≡◌, ℕ, ◌<◌, ◌^◌, IfOk, Some, string_bytes};
+ghost use Rattle.dp_base.specs.Guid.{guid, id_of_guid, key_text, drawn_id};
 
 use crate::Memory;
 use std::alloc::Global;
-use uuid::Uuid;
+use std::fmt;
+use std::fmt::Display;
+use uuid::{Builder, Uuid};
 
 /// The id of a key: the number of its canonical bytes, high byte first. Ids are ordered as numbers.
 #[derive(Clone, Copy, Debug, PartialEq, Eq, PartialOrd, Ord)]
@@ -31,6 +33,23 @@ pub fn key_id_from_guid(bytes: &[u8; 16]) -> KeyId
 pub fn guid_one_to_one()
     ensures { (a b : ℕ) → a < 2 ^ 128 → b < 2 ^ 128 → guid a ≡ guid b → a ≡ b }
 {}
+
+/// The id of sixteen drawn bytes, a random one by RFC 9562, section 5.4.
+#[tactic(auto, unfolding(crate::specs::Guid::drawn_id))]
+pub fn key_id_of_draw(bytes: &[u8; 16]) -> KeyId
+    ensures { result.0 ≡ drawn_id bytes.now }
+{
+    KeyId(Builder::from_random_bytes(*bytes).into_uuid().as_u128())
+}
+
+impl Display for KeyId {
+    ghost output = { λ id. Some (key_text id.0) };
+
+    #[tactic(auto, unfolding(crate::specs::Guid::key_text))]
+    fn fmt<W: fmt::Write>(&self, f: &mut fmt::Formatter<W>) -> fmt::Result {
+        Display::fmt(&Uuid::from_u128(self.0), f)
+    }
+}
 
 /// The hyphenated text in lower case: 36 bytes.
 pub fn key_id_text(alloc: Global, id: &KeyId) -> Result<String, Memory>

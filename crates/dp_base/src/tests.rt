@@ -46,6 +46,7 @@ fn codes(rt: HostRuntime) {
     for (code, alg) in table {
         assert_eq!(rt; alg_of(code), Some(alg), "code {code}");
         assert_eq!(rt; code_of(alg), code, "code {code}");
+        assert_eq!(rt; Alg::try_from(code), Ok(alg), "code {code}");
     }
     for code in [0, 10, 200, 255] {
         assert_eq!(rt; alg_of(code), None, "code {code}");
@@ -98,4 +99,78 @@ fn sum_of_bytes(rt: HostRuntime) {
     let mut bytes = [0x0f, 0xff, 0x80];
     xor_into(&mut bytes, &[0xff, 0xff, 0x01, 0x55]);
     assert_eq!(rt; bytes, [0xf0, 0x00, 0x81]);
+}
+
+// The bytes in order; the call with number 1 fails, and one that asks for too many.
+#[test]
+fn drawing_from_memory(rt: HostRuntime) -> Result<(), Fail> {
+    let bytes = [1, 2, 3].to_vec(rt.alloc())?;
+    let mut draw = MemDraw::new(bytes, [1].to_vec(rt.alloc())?);
+    let mut out = [0; 2];
+    let mut taped = Taped::new(&mut draw);
+    assert_eq!(rt; taped.fill(&mut out), Ok(()));
+    assert_eq!(rt; out, [1, 2]);
+    assert_eq!(rt; taped.fill(&mut out[..1]), Err(Failed));
+    assert_eq!(rt; taped.fill(&mut out[..1]), Ok(()));
+    assert_eq!(rt; taped.fill(&mut out[..1]), Err(Failed));
+    assert_eq!(rt; taped.bytes(), [1, 2, 3].as_slice());
+    Ok(())
+}
+
+// RFC 8439, appendix A.1, test vector #1: the key stream under a key of zeros, at counter 0.
+#[test]
+fn drawing_from_chacha(rt: HostRuntime) {
+    let mut draw = ChaChaDraw::new([0; 32], 0);
+    let mut out = [0; 6];
+    assert_eq!(rt; draw.fill(&mut out), Ok(()));
+    assert_eq!(rt; out, [0x76, 0xb8, 0xe0, 0xad, 0xa0, 0xf1]);
+    let mut next = [0; 4];
+    assert_eq!(rt; draw.fill(&mut next), Ok(()));
+    assert_eq!(rt; next, [0x40, 0x5d, 0x6a, 0xe5]);
+}
+
+// Each moment, and then the last one again.
+#[test]
+fn moments_from_memory(rt: HostRuntime) -> Result<(), Fail> {
+    let mut clock = MemClock::new([5, 7].to_vec(rt.alloc())?);
+    let shown = [clock.now(), clock.now(), clock.now()];
+    assert_eq!(rt; shown, [5, 7, 7]);
+    let mut none = MemClock::new(Vec::new(rt.alloc()));
+    assert_eq!(rt; none.now(), 0);
+    Ok(())
+}
+
+// The clock of the system is past 2025, and two draws of the system differ.
+#[test]
+fn system_clock_and_draws(rt: HostRuntime) {
+    let mut clock = SystemClock::new(&rt);
+    assert!(rt; clock.now() > 638_700_000_000_000_000);
+    let mut draw = OsDraw::new(&rt);
+    let (mut first, mut second) = ([0; 16], [0; 16]);
+    assert_eq!(rt; draw.fill(&mut first), Ok(()));
+    assert_eq!(rt; draw.fill(&mut second), Ok(()));
+    assert!(rt; first != second);
+}
+
+// docs/FORMATS.md, "Ids": the id of sixteen zero bytes.
+#[test]
+fn drawn_ids(rt: HostRuntime) -> Result<(), Fail> {
+    let id = key_id_of_draw(&[0; 16]);
+    let text = format!(in rt.alloc(); "{id}")?;
+    assert_eq!(rt; text.as_str(), "00000000-0000-4000-8000-000000000000");
+    let other = key_id_of_draw(&[0xff; 16]);
+    let text = format!(in rt.alloc(); "{other}")?;
+    assert_eq!(rt; text.as_str(), "ffffffff-ffff-4fff-bfff-ffffffffffff");
+    Ok(())
+}
+
+#[test]
+fn phrases(rt: HostRuntime) -> Result<(), Fail> {
+    let failed = format!(in rt.alloc(); "{Failed}")?;
+    assert_eq!(rt; failed.as_str(), "the call failed");
+    let code = format!(in rt.alloc(); "{BadCode}")?;
+    assert_eq!(rt; code.as_str(), "no algorithm has this code");
+    let memory = format!(in rt.alloc(); "{Memory}")?;
+    assert_eq!(rt; memory.as_str(), "no memory");
+    Ok(())
 }

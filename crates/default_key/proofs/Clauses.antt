@@ -6,7 +6,7 @@ use Rattle.std.specs.Option.{option_or}
 use Rattle.std.proofs.lemmas.Bool.Decides.{Decides-and}
 use Rattle.std.proofs.lemmas.Option.{slice_get_cases}
 use Rattle.default_key.specs.declared.key_facts.KeyFacts.{KeyFacts}
-use Rattle.default_key.specs.Choice.{fallback_of, is_maximum, is_newer, is_older, is_preferred, is_settled, is_sound, newest_of, oldest_of, preferred_of, renew_of, takes_over}
+use Rattle.default_key.specs.PolicyValues.{fallback_of, is_maximum, is_newer, is_older, is_preferred, is_settled, is_sound, newest_of, oldest_of, preferred_of, renew_of, takes_over}
 use Rattle.default_key.specs.OrderLaws.{IsStrictWeakOrder-is_newer}
 use Rattle.default_key.specs.Policy.{HaveDistinctIds, IsFallback, IsFollowed, IsNewest, IsOldest, IsPreferred, IsSettled, TakesOver}
 use Rattle.default_key.proofs.Exists.{position-no_maximum}

@@ -4,7 +4,7 @@ use Rattle.std.specs.Cmp.{IsStrictWeakOrder}
 use Rattle.std.proofs.lemmas.Bool.{cases_Bool}
 use Rattle.std.proofs.lemmas.Grind.{common_steps}
 use Rattle.default_key.specs.declared.key_facts.KeyFacts.{KeyFacts}
-use Rattle.default_key.specs.Choice.{is_maximum}
+use Rattle.default_key.specs.PolicyValues.{is_maximum}
 use Rattle.default_key.proofs.Maxima.{Found, IsHeld, position-found}
 
 -- one more key, which doesn't pass

@@ -5,7 +5,7 @@ use Rattle.std.proofs.lemmas.Bool.{cases_Bool}
 use Rattle.std.proofs.lemmas.List.Folds.{list_all_at}
 use Rattle.std.proofs.lemmas.List.Sums.{list_all-from_AllPass}
 use Rattle.default_key.specs.declared.key_facts.KeyFacts.{KeyFacts}
-use Rattle.default_key.specs.Choice.{is_maximum}
+use Rattle.default_key.specs.PolicyValues.{is_maximum}
 use Rattle.default_key.proofs.Places.{and_false, and_left, position-first, position-none}
 
 -- of the first n keys, the one at place passes and goes before each earlier one that passes, and no

@@ -5,7 +5,7 @@ use Rattle.std.proofs.lemmas.Bool.Decides.{nat_tests}
 use Rattle.std.proofs.lemmas.List.{get_or_default}
 use Rattle.default_key.specs.declared.key_facts.KeyFacts.{KeyFacts}
 use Rattle.default_key.specs.declared.options.TheConstants.{PROPAGATION, SKEW}
-use Rattle.default_key.specs.Choice.{is_newer, is_sound, newest_of, is_active, is_ahead, is_best, is_maximum, is_preferred, is_valid, preferred_of, renew_of, takes_over}
+use Rattle.default_key.specs.PolicyValues.{is_newer, is_sound, newest_of, is_active, is_ahead, is_best, is_maximum, is_preferred, is_valid, preferred_of, renew_of, takes_over}
 use Rattle.default_key.specs.Policy.{HaveDistinctIds}
 use Rattle.default_key.proofs.Maxima.{is_maximum-passes, is_maximum-unbeaten}
 use Rattle.default_key.proofs.Places.{IsAlone, list_any-alone, list_any-no_first, position-dropped, position-kept, position-no_first, IsAlone-and}

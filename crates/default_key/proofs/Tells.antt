@@ -4,7 +4,7 @@ use Rattle.std.specs.Bool.{Decides}
 use Rattle.std.proofs.lemmas.Bool.{cases_Bool}
 use Rattle.std.proofs.lemmas.Bool.Decides.{Decides-and, Decides-like, Decides-ltb, nat_tests}
 use Rattle.default_key.specs.declared.key_facts.KeyFacts.{KeyFacts}
-use Rattle.default_key.specs.Choice.{is_active, is_ahead, is_best, is_maximum, is_newer, is_older, is_preferred, is_settled, is_sound, is_valid, takes_over}
+use Rattle.default_key.specs.PolicyValues.{is_active, is_ahead, is_best, is_maximum, is_newer, is_older, is_preferred, is_settled, is_sound, is_valid, takes_over}
 use Rattle.default_key.specs.Policy.{IsActive, IsAhead, IsBest, IsNewest, IsOldest, IsPreferred, IsSettled, IsSound, IsValid, TakesOver}
 use Rattle.default_key.proofs.Maxima.{is_maximum-passes, is_maximum-true, is_maximum-unbeaten}
 

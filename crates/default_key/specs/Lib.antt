@@ -1,3 +1,3 @@
-pub mod Choice
+pub mod PolicyValues
 pub mod OrderLaws
 pub mod Policy

@@ -6,7 +6,7 @@ use Rattle.std.specs.Cmp.{IsStrictWeakOrder}
 use Rattle.std.proofs.lemmas.Bool.Decides.{nat_tests}
 use Rattle.std.proofs.lemmas.List.MinMax.{IsStrictWeakOrder-by_number, IsStrictWeakOrder-flip}
 use Rattle.default_key.specs.declared.key_facts.KeyFacts.{KeyFacts}
-use Rattle.default_key.specs.Choice.{is_ahead, is_newer, is_older}
+use Rattle.default_key.specs.PolicyValues.{is_ahead, is_newer, is_older}
 
 pub IsStrictWeakOrder-is_older : IsStrictWeakOrder is_older
 IsStrictWeakOrder-is_older = IsStrictWeakOrder-by_number (λ (key : KeyFacts). key.creation)

@@ -4,7 +4,7 @@ ghost use Rattle.std.specs.Prelude.{◌≡◌, ◌+◌, ◌&&◌, Bool, true, po
 ghost use Rattle.std.specs.Cmp.{IsStrictWeakOrder};
 ghost use Rattle.std.specs.Option.{option_map_or};
 ghost use Rattle.default_key.specs.declared.key_facts.KeyFacts.{KeyFacts};
-ghost use Rattle.default_key.specs.Choice.{is_ahead, is_maximum, is_newer, is_older, is_sound};
+ghost use Rattle.default_key.specs.PolicyValues.{is_ahead, is_maximum, is_newer, is_older, is_sound};
 ghost use Rattle.default_key.specs.OrderLaws.{IsStrictWeakOrder-is_ahead, IsStrictWeakOrder-is_newer, IsStrictWeakOrder-is_older};
 
 use crate::KeyFacts;

@@ -21,7 +21,7 @@ pub struct KeyFacts {
 }
 
 impl KeyFacts {
-    ghost use Rattle.default_key.specs.Choice.{is_sound, is_valid};
+    ghost use Rattle.default_key.specs.PolicyValues.{is_sound, is_valid};
 
     /// Whether the key is usable and unrevoked.
     pub(crate) fn is_sound(&self) -> bool

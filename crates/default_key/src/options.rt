@@ -7,15 +7,22 @@ ghost use Rattle.dp_base.specs.declared.ticks.TheConstants.{TICKS_PER_DAY};
 ghost use Rattle.default_key.specs.declared.options.TheConstants.{PERIOD, PROPAGATION, SKEW};
 
 use dp_base::{AesSize, Alg, TICKS_PER_DAY};
+use thiserror::Error;
 
 /// How far clocks of one ring may differ, in ticks: 5 minutes.
 pub const SKEW: u64 = 5 * 60 * 10_000_000;
 
+const _: () = prove!(SKEW == 3_000_000_000);
+
 /// How long a new key may take to reach every node, in ticks: 2 days.
 pub const PROPAGATION: u64 = 2 * TICKS_PER_DAY;
 
+const _: () = prove!(PROPAGATION == 1_728_000_000_000);
+
 /// How long a ring is used before it is read anew, in ticks: 24 hours.
 pub const PERIOD: u64 = TICKS_PER_DAY;
+
+const _: () = prove!(PERIOD == 864_000_000_000);
 
 /// How a ring is kept. The three spans are fixed, and a lifetime has 7 to 3,650 days.
 #[derive(Clone, Copy, Debug, PartialEq, Eq)]
@@ -40,7 +47,8 @@ pub struct Options {
 }
 
 /// The lifetime isn't one of 7 to 3,650 days.
-#[derive(Clone, Copy, Debug, PartialEq, Eq)]
+#[derive(Clone, Copy, Debug, PartialEq, Eq, Error)]
+#[error("the lifetime isn't one of 7 to 3650 days")]
 pub struct BadLifetime;
 
 impl Options {

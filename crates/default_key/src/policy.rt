@@ -3,7 +3,7 @@
 ghost use Rattle.std.specs.Prelude.{◌≡◌, ℕ, ◌<◌, ◌≤◌, ◌↔◌, false, All, IfSome, IsSomeAnd, length, slice_get};
 ghost use Rattle.dp_base.specs.declared.ticks.TheConstants.{LAST, MAX_TICKS};
 ghost use Rattle.std.specs.List.{list_any};
-ghost use Rattle.default_key.specs.Choice.{fallback_of, policy_of, preferred_of, renew_of, takes_over};
+ghost use Rattle.default_key.specs.PolicyValues.{fallback_of, policy_of, preferred_of, renew_of, takes_over};
 ghost use Rattle.default_key.specs.Policy.{HaveDistinctIds, IsFallback, IsFollowed, IsPreferred};
 
 use crate::choice::{Latest, Newest, Oldest, first_of};

@@ -2,6 +2,7 @@
 
 use super::*;
 use dp_base::{AesSize, Alg, KeyId};
+use std::test::Fail;
 
 // Made and active at day 0, and expired at day 90.
 const A: KeyFacts = KeyFacts {
@@ -152,4 +153,14 @@ fn standard_options(rt: HostRuntime) {
     assert_eq!(rt; options.lifetime, 77_760_000_000_000);
     assert!(rt; options.auto);
     assert_eq!(rt; options.new_alg, Alg::Cbc256(AesSize::A256));
+}
+
+#[test]
+fn phrases(rt: HostRuntime) -> Result<(), Fail> {
+    let lifetime = format!(in rt.alloc(); "{BadLifetime}")?;
+    assert_eq!(rt;
+        lifetime.as_str(),
+        "the lifetime isn't one of 7 to 3650 days"
+    );
+    Ok(())
 }

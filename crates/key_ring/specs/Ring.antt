@@ -3,7 +3,7 @@ use Rattle.std.specs.Prelude.{◌≡◌, ℕ, ◌+◌, ◌-◌, ◌&&◌, nat_lt
 use Rattle.std.specs.Option.{option_or}
 use Rattle.default_key.specs.declared.policy.Policy.{Policy}
 use Rattle.default_key.specs.declared.options.TheConstants.{PERIOD}
-use Rattle.default_key.specs.Choice.{policy_of}
+use Rattle.default_key.specs.PolicyValues.{policy_of}
 use Rattle.key_elements.specs.declared.element.Element.{Element}
 use Rattle.key_elements.specs.declared.element.KeyRecord.{KeyRecord}
 use Rattle.key_ring.specs.Keys.{keys_of, facts}

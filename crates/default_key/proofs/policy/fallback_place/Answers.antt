@@ -1,5 +1,5 @@
 use Rattle.std.proofs.Common.{◌≡◌, ◌∙◌, false, is_some, refl, sym, ap, arith}
-use Rattle.default_key.specs.Choice.{preferred_of}
+use Rattle.default_key.specs.PolicyValues.{preferred_of}
 use Rattle.default_key.proofs.Preference.{newest_after}
 use Rattle.default_key.proofs.policy.fallback_place.Goals as goal
 

@@ -1,7 +1,7 @@
 use Rattle.std.proofs.Common.{◌≡◌, ℕ, List, ◌+◌, ◌-◌, ap, ◌∙◌}
 use Rattle.std.specs.Option.{option_copied}
 use Rattle.default_key.specs.declared.options.TheConstants.{PERIOD}
-use Rattle.default_key.specs.Choice.{policy_of}
+use Rattle.default_key.specs.PolicyValues.{policy_of}
 use Rattle.key_elements.specs.declared.element.Element.{Element}
 use Rattle.key_ring.specs.Keys.{keys_of, facts}
 use Rattle.key_ring.specs.Ring.{RingOf, IsRing, until_with, policy_at}

@@ -3,12 +3,13 @@ use Rattle.std.proofs.Common.{◌≡◌, ℕ, zero, suc, ◌+◌, ◌-◌, ◌<�
 use Rattle.std.proofs.lemmas.List.{take_at, drop_at, take-append-drop, length-append, length-drop}
 use Rattle.dp_base.specs.Blocks.{AreBytes}
 use Rattle.key_elements.specs.declared.element.Element.{Element}
-use Rattle.key_elements.specs.declared.element.Element.TheVariants.{Key}
+use Rattle.key_elements.specs.declared.element.Element.TheVariants.{Key, RevokeKey, RevokeBefore}
 use Rattle.key_elements.specs.declared.refused.ElementRefused.{ElementRefused}
 use Rattle.key_elements.specs.Record.{IsElement, IsRecord, record_of}
-use Rattle.key_elements.specs.Reading.{key_at, element_at}
+use Rattle.key_elements.specs.Reading.{key_at, revocation_at, mass_revocation_at, element_at}
 use Rattle.key_elements.proofs.Fields.{bind_ok}
 use Rattle.key_elements.proofs.Keys.{key_takes, key_again}
+use Rattle.key_elements.proofs.Revocations.{revocation_takes, revocation_again, mass_takes, mass_again}
 
 -- an element whose record stands at the front of the bytes
 pub record TakesElement (bytes : List ℕ) (e : Element) (rest : List ℕ) : Type 0 where
@@ -29,11 +30,27 @@ element_takes (suc zero ∷ rest) x fits e =
       rest_fits = t.takes.rest_fits;
       fits = t.fits;
     })
-element_takes (suc (suc kind) ∷ rest) x fits e = absurd cc
+element_takes (suc (suc zero) ∷ rest) x fits e =
+    let t = revocation_takes rest x (λ i. fits (suc i)) e in
+    subst (λ (y : Element). TakesElement (2 ∷ rest) y x.1) t.is (record {
+      parts = ap (λ (t : List ℕ). 2 ∷ t) t.takes.parts;
+      rest_fits = t.takes.rest_fits;
+      fits = t.fits;
+    })
+element_takes (suc (suc (suc zero)) ∷ rest) x fits e =
+    let t = mass_takes rest x (λ i. fits (suc i)) e in
+    subst (λ (y : Element). TakesElement (3 ∷ rest) y x.1) t.is (record {
+      parts = ap (λ (t : List ℕ). 3 ∷ t) t.takes.parts;
+      rest_fits = t.takes.rest_fits;
+      fits = t.fits;
+    })
+element_takes (suc (suc (suc (suc kind))) ∷ rest) x fits e = absurd cc
 
 pub element_again : (e : Element) (rest : List ℕ) → IsElement e → element_at (record_of e ++ rest) ≡ Ok (e, rest)
 unfolding element_at
 element_again (Key k) rest fits = rw (key_again k rest fits) refl
+element_again (RevokeKey id d text) rest fits = revocation_again id.0 d text rest fits
+element_again (RevokeBefore d text) rest fits = mass_again d text rest fits
 
 abbrev read : Element × List ℕ → Result (Element × List ℕ) ElementRefused
 read x = Ok x
@@ -52,6 +69,8 @@ same_records a b x y fa fb e =
 -- a record isn't empty
 pub record-some : (e : Element) → 0 < length (record_of e)
 record-some (Key k) = omega arith
+record-some (RevokeKey id d text) = omega arith
+record-some (RevokeBefore d text) = omega arith
 
 -- what a reader that keeps the rest answers of lengths
 pub record ReadsRecord (bytes : List ℕ) (e : Element) (rest : List ℕ) : Type 0 where

@@ -1,21 +1,20 @@
 -- The keys of a list of elements, element by element, and that no two have one id.
 use Rattle.std.proofs.Common.{Some, None, ◌≡◌, ℕ, ◌+◌, ◌<◌, Bool, true, false, not, cond, List, [], ◌∷◌, ◌++◌, filter, length, take, get_or, refl, ap, sym, subst, eq-eqb, ◌∙◌, arith}
 use Rattle.key_elements.specs.declared.element.Element.{Element}
-use Rattle.key_elements.specs.declared.element.Element.TheVariants.{Key}
+use Rattle.key_elements.specs.declared.element.Element.TheVariants.{Key, RevokeKey, RevokeBefore}
 use Rattle.key_elements.specs.declared.element.KeyRecord.{KeyRecord}
 use Rattle.std.specs.Prelude.{AllPairs}
-use Rattle.std.specs.List.{AllByRecursion}
-use Rattle.std.proofs.lemmas.List.{take_more}
+use Rattle.std.specs.List.{AllByRecursion, filter_map}
+use Rattle.std.proofs.lemmas.List.{take_more, append-nil}
 use Rattle.std.proofs.lemmas.List.Kept.{AllPairs-cons, AllPairs-filter}
-use Rattle.std.proofs.lemmas.List.Elements.{filter_passes}
+use Rattle.std.proofs.lemmas.List.Elements.{filter_passes, filter_map-append}
 use Rattle.key_elements.specs.Record.{IsElement, IsKey}
 use Rattle.key_ring.specs.Keys.{key_in, records_of, same_key, last_or, last_record, keys_of}
 use Rattle.key_ring.specs.Put.{put_record}
 use Rattle.key_ring.proofs.Snoc.{keys_on, keys_on-is, keys_on-push, last_record-id}
 
 records_of-push : (es : List Element) (r : KeyRecord) → records_of (es ++ Key r ∷ []) ≡ records_of es ++ r ∷ []
-records_of-push [] r = refl
-records_of-push (Key k ∷ es) r = ap (λ (t : List KeyRecord). k ∷ t) (records_of-push es r)
+records_of-push es r = filter_map-append key_in es (Key r ∷ [])
 
 -- by the reading from the front
 pub keys_of-on : (es : List Element) → keys_of es ≡ keys_on (records_of es)
@@ -30,6 +29,8 @@ keys_of-push es r =
 -- an element that is a key is this one
 key_in-is : (e : Element) (r : KeyRecord) → Some r ≡ key_in e → e ≡ Key r
 key_in-is (Key k) r is = ap Key (sym (cc is))
+key_in-is (RevokeKey id d reason) r is = absurd cc
+key_in-is (RevokeBefore d reason) r is = absurd cc
 
 -- one element more, which is a key
 pub keys_of-more : (es : List Element) (i : ℕ) (d : Element) (r : KeyRecord) → i < length es → Some r ≡ key_in (get_or es i d)
@@ -37,9 +38,18 @@ pub keys_of-more : (es : List Element) (i : ℕ) (d : Element) (r : KeyRecord) �
 keys_of-more es i d r lt is =
     ap keys_of (take_more es i d lt) ∙ ap (λ (e : Element). keys_of (take i es ++ e ∷ [])) (key_in-is (get_or es i d) r is) ∙ keys_of-push (take i es) r
 
--- every element is a key
-pub key_in-some : (e : Element) → None ≡ key_in e → ⊥
-key_in-some (Key k) is = cc
+no_record : (e : Element) → None ≡ key_in e → filter_map key_in (e ∷ []) ≡ []
+no_record (Key k) is = absurd cc
+no_record (RevokeKey id d reason) is = refl
+no_record (RevokeBefore d reason) is = refl
+
+-- one element more, which is no key
+pub keys_of-skip : (es : List Element) (i : ℕ) (d : Element) → i < length es → None ≡ key_in (get_or es i d) → keys_of (take (i + 1) es) ≡ keys_of (take i es)
+keys_of-skip es i d lt is =
+    let same : records_of (take (i + 1) es) ≡ records_of (take i es) =
+    ap records_of (take_more es i d lt) ∙ filter_map-append key_in (take i es) (get_or es i d ∷ [])
+    ∙ ap (λ (t : List KeyRecord). records_of (take i es) ++ t) (no_record (get_or es i d) is) ∙ append-nil (records_of (take i es)) in
+    keys_of-on (take (i + 1) es) ∙ ap keys_on same ∙ sym (keys_of-on (take i es))
 
 -- a fact of every record among the elements holds of the keys
 last_or-each : (P : KeyRecord → Type 0) (d : KeyRecord) (ks : List KeyRecord) → P d → AllByRecursion P ks → P (last_or d ks)
@@ -62,6 +72,8 @@ keys_on-each P (k ∷ ks) all =
 records_of-keys : (es : List Element) → AllByRecursion IsElement es → AllByRecursion IsKey (records_of es)
 records_of-keys [] all = tt
 records_of-keys (Key k ∷ es) all = (all.0, records_of-keys es all.1)
+records_of-keys (RevokeKey id d reason ∷ es) all = records_of-keys es all.1
+records_of-keys (RevokeBefore d reason ∷ es) all = records_of-keys es all.1
 
 -- the keys of a list of elements can stand in records
 pub keys_of-each : (es : List Element) → AllByRecursion IsElement es → AllByRecursion IsKey (keys_of es)

@@ -3,3 +3,4 @@ pub mod Snoc
 pub mod Lookup
 pub mod KeysOf
 pub mod FactsOf
+pub mod Stays

@@ -1,12 +1,14 @@
 -- The listing of a ring: lines of text, each ended by the byte 10 (docs/FORMATS.md, "Listing").
-use Rattle.std.specs.Prelude.{ℕ, Bool, true, false, not, List, [], ◌∷◌, ◌++◌, length, nat_le, nat_lt, if◌then◌else◌, Option, Some, None, codes}
+use Rattle.std.specs.Prelude.{ℕ, Bool, true, false, not, List, [], ◌∷◌, ◌++◌, length, nat_le, nat_lt, max, fold, if◌then◌else◌, Option, Some, None, codes}
 use Rattle.std.specs.List.{concat, flat_map}
 use Rattle.std.specs.Fmt.{decimal}
 use Rattle.dp_base.specs.Guid.{key_text}
 use Rattle.key_elements.specs.declared.element.Element.{Element}
+use Rattle.key_elements.specs.declared.element.Element.TheVariants.{Key, RevokeKey, RevokeBefore}
 use Rattle.key_elements.specs.declared.element.KeyRecord.{KeyRecord}
 use Rattle.default_key.specs.declared.policy.Policy.{Policy}
-use Rattle.key_ring.specs.Keys.{keys_of, is_revoked, is_usable}
+use Rattle.key_ring.specs.Keys.{records, ring_keys, is_usable}
+use Rattle.key_ring.specs.declared.keys.RingKey.{RingKey}
 use Rattle.key_ring.specs.Ring.{chosen, policy_at}
 
 -- what ends a line
@@ -17,9 +19,25 @@ newline = 10 ∷ []
 unfoldable pub head_line : List Element → ℕ → List ℕ
 head_line es t = concat (codes "ring " ∷ decimal (length es) ∷ codes " elements at " ∷ decimal t ∷ newline ∷ [])
 
--- the greatest date of a mass revocation: there is none
-abbrev pub mass_line : List Element → List ℕ
-mass_line es = concat (codes "mass none" ∷ newline ∷ [])
+-- the greater of a date and one that there may be
+abbrev pub later : Option ℕ → ℕ → Option ℕ
+later None d = Some d
+later (Some e) d = Some (max e d)
+
+-- the greatest date so far, with one element more
+abbrev pub with_mass_date : Option ℕ → Element → Option ℕ
+with_mass_date greatest (Key k) = greatest
+with_mass_date greatest (RevokeKey id d reason) = greatest
+with_mass_date greatest (RevokeBefore d reason) = later greatest d
+
+-- the greatest date of a mass revocation, if there is one
+unfoldable pub mass_date : List Element → Option ℕ
+mass_date es = fold with_mass_date None es
+
+-- the greatest date of a mass revocation
+abbrev pub mass_line : Option ℕ → List ℕ
+mass_line None = concat (codes "mass none" ∷ newline ∷ [])
+mass_line (Some d) = concat (codes "mass " ∷ decimal d ∷ newline ∷ [])
 
 -- the first of these states that holds of a key, which is revoked or isn't
 unfoldable pub state_of : ℕ → Bool → KeyRecord → List ℕ
@@ -57,11 +75,12 @@ renew_line true = concat (codes "renew yes" ∷ newline ∷ [])
 renew_line false = concat (codes "renew no" ∷ newline ∷ [])
 
 -- the lines of a list with its keys and their policy at the moment, in order
-unfoldable pub lines : List Element → List KeyRecord → Policy → ℕ → List ℕ
+unfoldable pub lines : List Element → List RingKey → Policy → ℕ → List ℕ
 lines es keys policy t =
-    head_line es t ++ mass_line es ++ flat_map (λ k. key_line t (is_revoked es k) k) keys
-    ++ default_line (chosen keys policy.preferred) (chosen keys policy.fallback) ++ renew_line policy.renew
+    head_line es t ++ mass_line (mass_date es) ++ flat_map (λ k. key_line t k.revoked k.key) keys
+    ++ default_line (chosen (records keys) policy.preferred) (chosen (records keys) policy.fallback)
+    ++ renew_line policy.renew
 
 -- the listing of the ring of a list at a moment
 abbrev pub listing : List Element → ℕ → List ℕ
-listing es t = lines es (keys_of es) (policy_at es t) t
+listing es t = lines es (ring_keys es) (policy_at es t) t

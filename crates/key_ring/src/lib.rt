@@ -2,11 +2,16 @@
 //! listing that shows them.
 #![tactic(auto)]
 
-mod choice;
+mod due;
+mod elements;
 mod keys;
 mod listing;
+mod named;
+mod revoked;
 mod ring;
 
+pub use due::{EXTENSION, Why};
+pub use revoked::revoked_stays;
 pub use ring::{KeyState, Ring};
 
 #[cfg(test)]

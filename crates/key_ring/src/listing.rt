@@ -1,13 +1,13 @@
 //! The lines of a listing (docs/FORMATS.md, "Listing").
 
-ghost use Rattle.std.specs.Prelude.{◌≡◌, ℕ, List, ◌++◌, false, IfOk, OnOk, length, string_bytes};
+ghost use Rattle.std.specs.Prelude.{◌≡◌, ◌++◌, IfOk, OnOk, length, string_bytes};
 ghost use Rattle.std.specs.List.{flat_map};
 ghost use Rattle.std.specs.Option.{option_copied};
-ghost use Rattle.key_elements.specs.declared.element.Element.{Element};
-ghost use Rattle.key_ring.specs.Listing.{head_line, mass_line, state_of, dates_text, key_line, chosen_line, default_line, renew_line, lines};
+ghost use Rattle.key_ring.specs.Listing.{head_line, mass_date, mass_line, state_of, dates_text, key_line, chosen_line, default_line, renew_line, lines};
 
-use crate::choice::key_at;
-use crate::keys::is_usable;
+use crate::keys::{RingKey, is_usable};
+use crate::named::chosen;
+use crate::revoked::mass_date;
 use default_key::Policy;
 use dp_base::{Memory, key_id_text};
 use key_elements::{ElementList, KeyRecord};
@@ -22,11 +22,14 @@ fn head_line(alloc: Global, list: &ElementList, made_at: u64) -> Result<String, 
     Ok(format!(in alloc; "ring {count} elements at {made_at}\n")?)
 }
 
-// No mass revocation is known.
-fn mass_line() -> &'static str
-    ensures { (es : List Element) → result.now ≡ mass_line es }
+// The greatest date of a mass revocation.
+fn mass_line(alloc: Global, date: Option<u64>) -> Result<String, Memory>
+    ensures { IfOk result (λ text. string_bytes text ≡ mass_line date) }
 {
-    "mass none\n"
+    match date {
+        Some(date) => Ok(format!(in alloc; "mass {date}\n")?),
+        None => Ok(String::from_str(alloc, "mass none\n")?),
+    }
 }
 
 // The first of the states that holds.
@@ -71,18 +74,18 @@ fn key_line(alloc: Global, key: &KeyRecord, revoked: bool, made_at: u64) -> Resu
     Ok(format!(in alloc; "key {id} {dates} {state}\n")?)
 }
 
-// Adds a line for each key. No key is revoked.
+// Adds a line for each key.
 fn push_key_lines(
     alloc: Global,
     text: &mut String,
-    keys: &[KeyRecord],
+    keys: &[RingKey],
     made_at: u64,
 ) -> Result<(), Memory>
     ensures { OnOk result (string_bytes text.new
-        ≡ string_bytes text.old ++ flat_map (λ k. key_line made_at false k) keys.now) }
+        ≡ string_bytes text.old ++ flat_map (λ k. key_line made_at k.revoked k.key) keys.now) }
 {
-    for key in keys {
-        text.push_str(key_line(alloc, key, false, made_at)?.as_str())?;
+    for entry in keys {
+        text.push_str(key_line(alloc, &entry.key, entry.revoked, made_at)?.as_str())?;
     }
     Ok(())
 }
@@ -122,17 +125,17 @@ fn renew_line(renew: bool) -> &'static str
 pub(crate) fn text_of(
     alloc: Global,
     list: &ElementList,
-    keys: &[KeyRecord],
+    keys: &[RingKey],
     policy: Policy,
     made_at: u64,
 ) -> Result<String, Memory>
     ensures { IfOk result (λ text. string_bytes text ≡ lines list.now keys.now policy made_at) }
 {
     let mut text = head_line(alloc, list, made_at)?;
-    text.push_str(mass_line())?;
+    text.push_str(mass_line(alloc, mass_date(list))?.as_str())?;
     push_key_lines(alloc, &mut text, keys, made_at)?;
-    let preferred = key_at(keys, policy.preferred);
-    let fallback = key_at(keys, policy.fallback);
+    let preferred = chosen(keys, policy.preferred);
+    let fallback = chosen(keys, policy.fallback);
     text.push_str(default_line(alloc, preferred, fallback)?.as_str())?;
     text.push_str(renew_line(policy.renew))?;
     Ok(text)

@@ -2,23 +2,13 @@
 use Rattle.std.proofs.Common.{◌≡◌, ℕ, ◌+◌, ◌*◌, ◌≤◌, List, [], ◌∷◌, ◌++◌, length, take, Option, Some, None, sym, ap, subst, ◌∙◌, arith}
 use Rattle.std.specs.List.{flat_map, AllByRecursion}
 use Rattle.std.proofs.lemmas.List.{length-append, length-take, take_all, drop_all}
-use Rattle.dp_base.specs.Guid.{guid}
-use Rattle.dp_base.proofs.Guid.{length-guid}
 use Rattle.key_elements.specs.declared.element.Element.{Element}
-use Rattle.key_elements.specs.declared.element.Element.TheVariants.{Key}
-use Rattle.key_elements.specs.Record.{date, key_fields, record_of, IsElement, IsList}
-use Rattle.dp_server.specs.declared.transfer.TheConstants.{MAX_RECORD, MAX_INPUT}
+use Rattle.key_elements.specs.declared.element.TheConstants.{MAX_RECORD}
+use Rattle.key_elements.specs.Record.{record_of, IsElement, IsList}
+use Rattle.key_elements.proofs.Longest.{length-record-le}
+use Rattle.dp_server.specs.declared.transfer.TheConstants.{MAX_INPUT}
 use Rattle.dp_base.specs.Transfer.{TakesFront}
 use Rattle.dp_server.specs.Show.{IsRefused, IsWhole}
-
-length-record-le : (e : Element) → IsElement e → length (record_of e) ≤ MAX_RECORD
-unfolding key_fields
-length-record-le (Key k) is =
-    let id = guid k.id.0 in
-    let one = id ++ date k.creation in
-    let two = one ++ date k.activation in
-    let three = two ++ date k.expiration in
-    omega (arith, length-append three (k.alg ∷ k.material), length-append two (date k.expiration), length-append one (date k.activation), length-append id (date k.creation), length-guid k.id.0, is.material_len)
 
 length-records-le : (es : List Element) → AllByRecursion IsElement es → length (flat_map record_of es) ≤ MAX_RECORD * length es
 length-records-le [] all = omega arith

@@ -6,11 +6,8 @@ ghost use Rattle.dp_server.specs.declared.transfer.ReadRefused.TheVariants as re
 ghost use Rattle.dp_base.specs.Transfer.{TakesFront, TakesAtMost};
 
 use dp_base::{Failed, Source};
-use key_elements::MAX_ELEMENTS;
+use key_elements::{MAX_ELEMENTS, MAX_RECORD};
 use std::alloc::{AllocError, Global};
-
-/// The most bytes of the record of an element.
-pub const MAX_RECORD: usize = 1_051;
 
 /// The most bytes of a list of elements.
 pub const MAX_INPUT: usize = MAX_ELEMENTS as usize * MAX_RECORD;

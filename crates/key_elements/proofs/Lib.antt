@@ -6,3 +6,4 @@ pub mod Lists
 pub mod Shared
 pub mod Answered
 pub mod Causes
+pub mod Longest

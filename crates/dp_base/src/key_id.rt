@@ -7,6 +7,7 @@ use crate::Memory;
 use std::alloc::Global;
 use std::fmt;
 use std::fmt::Display;
+use std::str::FromStr;
 use uuid::{Builder, Uuid};
 
 /// The id of a key: the number of its canonical bytes, high byte first. Ids are ordered as numbers.
@@ -37,9 +38,29 @@ pub fn guid_one_to_one()
 /// The id of sixteen drawn bytes, a random one by RFC 9562, section 5.4.
 #[tactic(auto, unfolding(crate::specs::Guid::drawn_id))]
 pub fn key_id_of_draw(bytes: &[u8; 16]) -> KeyId
-    ensures { result.0 ≡ drawn_id bytes.now }
+    ensures value { result.0 ≡ drawn_id bytes.now }
+    ensures bound { result.0 < 2 ^ 128 }
 {
     KeyId(Builder::from_random_bytes(*bytes).into_uuid().as_u128())
+}
+
+/// Reads an id in each text form that `uuid` reads, the hyphenated one among them.
+impl FromStr for KeyId {
+    ghost use Rattle.std.specs.Prelude.{◌≡◌, ◌↔◌, ℕ, List, Some, IsOk, IfOk};
+    ghost use Rattle.std.specs.Int.{w128, from_be_bytes};
+    ghost use Rattle.uuid.specs.Text.{parsed};
+
+    type Err = uuid::Error;
+
+    ghost from_str_gives = { λ text result. (IsOk result ↔ ((u : List ℕ) × (parsed text ≡ Some u)))
+        × IfOk result (λ id. (u : List ℕ) × (parsed text ≡ Some u) × (id.0 ≡ from_be_bytes w128 u)) };
+
+    fn from_str(text: &str) -> Result<KeyId, uuid::Error> {
+        match Uuid::parse_str(text) {
+            Ok(uuid) => Ok(KeyId(uuid.as_u128())),
+            Err(error) => Err(error),
+        }
+    }
 }
 
 impl Display for KeyId {

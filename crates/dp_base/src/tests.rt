@@ -1,4 +1,5 @@
 use super::*;
+use std::str::FromStr;
 use std::test::Fail;
 
 // docs/FORMATS.md, "Ids": the text of an id beside its layout.
@@ -13,6 +14,8 @@ fn ids(rt: HostRuntime) -> Result<(), Fail> {
     assert_eq!(rt; key_id_from_guid(&K1), id);
     let text = key_id_text(rt.alloc(), &id)?;
     assert_eq!(rt; text.as_str(), "0c819c80-6619-4019-9536-53f8aaffee57");
+    assert_eq!(rt; KeyId::from_str(text.as_str()).ok(), Some(id));
+    assert_eq!(rt; KeyId::from_str("0c819c80").ok(), None);
     Ok(())
 }
 

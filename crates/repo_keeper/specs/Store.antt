@@ -1,18 +1,15 @@
 -- A repository as clauses see it: the list, where it is told, and counts of what its calls answered.
-use Rattle.std.specs.Prelude.{◌≡◌, ℕ, ◌+◌, ◌-◌, ◌<◌, ◌≤◌, List, [], ◌∷◌, ◌++◌, length, take, drop, Option, Some, None, Result, Ok, Err, IfSome}
+use Rattle.std.specs.Prelude.{◌≡◌, ℕ, ◌+◌, ◌-◌, ◌<◌, ◌≤◌, List, [], ◌∷◌, ◌++◌, length, drop, Option, Some, None, Result, Ok, Err, IfSome}
 use Rattle.std.specs.List.{AllByRecursion}
 use Rattle.std.specs.declared.vec.Vec.{Vec}
 use Rattle.std.specs.declared.alloc.Global.{Global}
 pub use Rattle.dp_base.specs.Counts.{more}
 use Rattle.key_elements.specs.declared.element.Element.{Element}
 use Rattle.key_elements.specs.declared.list.TheConstants.{MAX_ELEMENTS}
+use Rattle.key_elements.specs.Lists.{Extends}
 use Rattle.key_elements.specs.Record.{IsElement}
 use Rattle.repo_keeper.specs.declared.repo.RepoError.{RepoError}
 use Rattle.repo_keeper.specs.declared.repo.RepoError.TheVariants.{Failed, Short, Full, Memory}
-
--- the first list is a front of the second
-abbrev pub Extends : List Element → List Element → Type 0
-Extends a b = take (length a) b ≡ a
 
 pub record Store : Type 0 where
   -- the list as far as it was seen
@@ -38,7 +35,7 @@ abbrev pub Grows : Option (List Element) → Option (List Element) → Type 0
 Grows None None = Unit {0}
 Grows None (Some new) = ⊥
 Grows (Some old) None = ⊥
-Grows (Some old) (Some new) = Extends old new
+Grows (Some old) (Some new) = Extends new old
 
 -- the repository after calls that add so much
 pub record Moved (t : Tally) (old new : Store) : Type 0 where

@@ -1,14 +1,14 @@
 -- Each kind of step on the table of a turn keeps its rule.
-use Rattle.std.proofs.Common.{◌≡◌, ◌≢◌, ◌⊎◌, ℕ, zero, suc, ◌+◌, ◌<◌, ◌≤◌, Bool, true, false, eqb, max, Option, Some, None, List, [], ◌∷◌, ◌++◌, length, slice_get, get_or, set, sym, refl, ap, ◌∙◌, subst, inl, inr, ⊎_elim, arith, rules}
+use Rattle.std.proofs.Common.{◌≡◌, ◌≢◌, ◌⊎◌, ℕ, zero, suc, ◌+◌, ◌<◌, ◌≤◌, true, false, eqb, max, Option, Some, None, List, [], ◌∷◌, ◌++◌, length, slice_get, get_or, set, sym, refl, ap, ◌∙◌, subst, inl, inr, ⊎_elim, arith, rules}
 use Rattle.std.proofs.lemmas.Bool.{false_from_ne_true, true≢false, false≢true}
 use mathlib.Core.Option.{some, none, some-injective, some-ne-none}
 use mathlib.Core.Option as maybe
 use lib.ListN.{get_elem?}
 use prog.Atomic.{either}
-use Rattle.atomic_table.specs.Table.{State, Me, Act, takes, gives, keeps, step, stepped, opening, rest, Valid, homes_after, carried_after, Allows, Splits, Joins}
+use Rattle.atomic_table.specs.Table.{Me, Act, takes, gives, keeps, step, opening, rest, Valid, homes_after, carried_after, Allows, Splits, Joins}
 use Rattle.atomic_table.proofs.Lists.{at_set, set_again, exchanged}
 use Rattle.flight_turn.specs.declared.rule.Stand.{Stand}
-use Rattle.flight_turn.specs.Rule.{Lies, Fits, Rules, Kept, seated, newcomer, maker, maker_at}
+use Rattle.flight_turn.specs.Rule.{Lies, Fits, Rules, Kept, seated, maker, maker_at}
 use Rattle.flight_turn.specs.declared.turn.Turn.{Turn}
 use Rattle.flight_turn.specs.declared.seat.TurnSeat.{TurnSeat}
 use Rattle.flight_turn.specs.Seats.{IsSeatOf, IsFresh, IsSameSeat, first_flight}

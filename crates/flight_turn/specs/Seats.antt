@@ -1,9 +1,10 @@
 -- What clauses read of a turn and of a seat.
-use Rattle.std.specs.Prelude.{◌≡◌, ℕ, ◌<◌, ◌≤◌, Bool, Option, Some}
+use Rattle.std.specs.Prelude.{◌≡◌, ℕ, ◌+◌, ◌<◌, Bool, true, false, Option, Some, List, [], length, slice_get, slice_index_or}
+use Rattle.atomic_table.specs.declared.shared.Seat.{Seat}
 use Rattle.flight_turn.specs.declared.turn.Turn.{Turn}
 use Rattle.flight_turn.specs.declared.seat.TurnSeat.{TurnSeat}
 use Rattle.flight_turn.specs.declared.rule.Stand.{Stand}
-use Rattle.flight_turn.specs.Rule.{newcomer}
+use Rattle.flight_turn.specs.Rule.{newcomer, maker_at}
 
 module _ {F : Type 0} where
   abbrev pub stand : TurnSeat F → Stand F
@@ -33,6 +34,22 @@ module _ {F : Type 0} where
   abbrev pub IsSameSeat : TurnSeat F → TurnSeat F → Type 0
   IsSameSeat s t = (t.place.table_id ≡ s.place.table_id) × (number t ≡ number s) × ((stand t).seats ≡ (stand s).seats) × ((stand t).like ≡ (stand s).like)
 
+  -- the same seat, after one step more
+  abbrev pub IsStep : TurnSeat F → TurnSeat F → Type 0
+  IsStep s t = IsSameSeat s t × (steps t ≡ steps s + 1)
+
+  -- it knows no more of the turn than before
+  abbrev pub StaysAtTurn : TurnSeat F → TurnSeat F → Type 0
+  StaysAtTurn s t = (read t ≡ read s) × (holds t ≡ holds s)
+
+  -- it didn't hold the turn, and does now
+  abbrev pub HasTaken : TurnSeat F → TurnSeat F → Type 0
+  HasTaken s t = (holds s ≡ false) × (holds t ≡ true)
+
+  -- the seats have the numbers 1, 2, …, hold nothing and know no want
+  abbrev pub AreNew : List (TurnSeat F) → Type 0
+  AreNew seats = (i : ℕ) (d : TurnSeat F) → i < length seats → let s = slice_index_or seats i d in (number s ≡ i + 1) × (holds s ≡ false) × (recorded s ≡ 0)
+
   -- how many seats a turn has
   abbrev pub seats_of : Turn F → ℕ
   seats_of t = t.table.shared.key.seats
@@ -41,9 +58,16 @@ module _ {F : Type 0} where
   abbrev pub first_flight : Turn F → F
   first_flight t = t.table.shared.key.flight.value
 
+  -- the seat that makes the others, of which this is the next number
+  abbrev pub IsMaker : Turn F → ℕ → Seat (Option F) (Stand F) → Type 0
+  IsMaker t number p = (p.table_id ≡ t.table.shared.table_id) × (p.me ≡ (maker_at number (seats_of t) (first_flight t), []))
+
   -- a seat of the turn that has this number and has made no step
   abbrev pub IsFresh : Turn F → ℕ → TurnSeat F → Type 0
   IsFresh t number s = (s.place.table_id ≡ t.table.shared.table_id) × (stand s ≡ newcomer number (seats_of t) (Some (first_flight t)))
+
+  abbrev pub AreFresh : Turn F → List (TurnSeat F) → Type 0
+  AreFresh t seats = (i : ℕ) (s : TurnSeat F) → slice_get seats i ≡ Some s → IsFresh t (i + 1) s
 
   module _ {M : Type 0} (mark : F → M) where
     -- the mark of a turn's flights

@@ -1,6 +1,6 @@
 -- What each kind of step on the table of a turn tells its seat. A step is made by a seat m, which
 -- is m' afterwards; n is the number that it found, or that it stored.
-use Rattle.std.specs.Prelude.{◌≡◌, ◌≢◌, ℕ, ◌+◌, ◌<◌, ◌≤◌, true, false, max, Option, Some, None, List, ◌∷◌}
+use Rattle.std.specs.Prelude.{◌≡◌, ◌≢◌, ℕ, ◌+◌, ◌<◌, ◌≤◌, true, false, max, Option, Some, None, ◌∷◌}
 use Rattle.atomic_table.specs.Table.{Me, Step, rest}
 use Rattle.flight_turn.specs.declared.rule.Stand.{Stand}
 use Rattle.flight_turn.specs.Rule.{newcomer}

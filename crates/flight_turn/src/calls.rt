@@ -1,7 +1,8 @@
 //! What makes a turn, and its four calls.
-ghost use Rattle.std.specs.Prelude.{◌≡◌, ◌≢◌, ℕ, ◌+◌, ◌<◌, ◌≤◌, true, false, [], length, IfOk, IfErr, All, Some, slice_get, slice_index_or};
-ghost use Rattle.flight_turn.specs.Rule.{maker_at};
-ghost use Rattle.flight_turn.specs.Seats.{IsSeatOf, IsFresh, seats_of, first_flight, turn_mark, IsSameSeat, number, holds, steps, read, recorded};
+ghost use Rattle.std.specs.Prelude.{◌≡◌, ◌≢◌, ◌+◌, ◌<◌, ◌≤◌, true, false, length, IfOk, IfErr, All};
+ghost use Rattle.flight_turn.specs.Seats.{IsSeatOf, IsStep, StaysAtTurn, HasTaken};
+ghost use Rattle.flight_turn.specs.Seats.{IsMaker, IsFresh, AreFresh, AreNew};
+ghost use Rattle.flight_turn.specs.Seats.{number, holds, read, recorded, seats_of, turn_mark};
 
 use crate::plays::{Ask, GiveBack, Make, Raise, TakeIn, Try};
 use crate::rule::{About, Place};
@@ -28,8 +29,9 @@ impl<F: Kin + Drop> Turn<F> {
         requires { (1 ≤ seats) × (seats ≤ 64) }
         ensures seats { IfOk result (λ r. length r.1.items ≡ seats) }
         ensures each { IfOk result (λ r. All (IsSeatOf F.mark r.0) r.1.items) }
-        ensures fresh { IfOk result (λ r. (i : ℕ) (d : _) → i < seats → let s = slice_index_or r.1.items i d in (number s ≡ i + 1) × (holds s ≡ false) × (recorded s ≡ 0)) }
-        ensures mark { IfOk result (λ r. (turn_mark F.mark r.0 ≡ F.mark flight) × (seats_of r.0 ≡ seats)) }
+        ensures fresh { IfOk result (λ r. AreNew r.1.items) }
+        ensures mark { IfOk result (λ r. turn_mark F.mark r.0 ≡ F.mark flight) }
+        ensures numbers { IfOk result (λ r. seats_of r.0 ≡ seats) }
     {
         let seats = u64::from(seats);
         let about = About {
@@ -54,9 +56,9 @@ impl<F: Kin + Drop> Turn<F> {
         seats: u64,
     ) -> Result<Vec<TurnSeat<F>>, Memory>
         requires seats { (1 ≤ seats) × (seats ≤ 64) × (seats_of self.now ≡ seats) }
-        requires maker { (maker.table_id ≡ self.now.table.shared.table_id) × (maker.me ≡ (maker_at 1 (seats_of self.now) (first_flight self.now), [])) }
+        requires maker { IsMaker self.now 1 maker }
         ensures len { IfOk result (λ r. length r.items ≡ seats) }
-        ensures each { IfOk result (λ r. (i : ℕ) (s : _) → slice_get r.items i ≡ Some s → IsFresh self.now (i + 1) s) }
+        ensures each { IfOk result (λ r. AreFresh self.now r.items) }
     {
         let mut made = Vec::with_capacity(alloc, seats as usize)?;
         for number in 1..seats {
@@ -72,8 +74,8 @@ impl<F: Kin + Drop> Turn<F> {
 
     fn make(&self, maker: &mut Place<F>, number: u64) -> TurnSeat<F>
         requires number { (1 ≤ number) × (number ≤ seats_of self.now) }
-        requires maker { (maker.old.table_id ≡ self.now.table.shared.table_id) × (maker.old.me ≡ (maker_at number (seats_of self.now) (first_flight self.now), [])) }
-        ensures maker { (maker.new.table_id ≡ maker.old.table_id) × (maker.new.me ≡ (maker_at (number + 1) (seats_of self.now) (first_flight self.now), [])) }
+        requires maker { IsMaker self.now number maker.old }
+        ensures maker { IsMaker self.now (number + 1) maker.new }
         ensures made { IsFresh self.now number result }
     {
         TurnSeat {
@@ -86,11 +88,13 @@ impl<F: Kin + Drop> Turn<F> {
     pub fn try_take(&self, seat: &mut TurnSeat<F>) -> Result<F, Busy>
         requires seat { IsSeatOf F.mark self.now seat.old }
         ensures seat { IsSeatOf F.mark self.now seat.new }
-        ensures same { IsSameSeat seat.old seat.new × (steps seat.new ≡ steps seat.old + 1) × (recorded seat.new ≡ recorded seat.old) }
-        ensures taken { IfOk result (λ flight. (read seat.new ≡ 0) × (holds seat.old ≡ false) × (holds seat.new ≡ true)) }
+        ensures same { IsStep seat.old seat.new × (recorded seat.new ≡ recorded seat.old) }
+        ensures taken { IfOk result (λ _. (read seat.new ≡ 0) × HasTaken seat.old seat.new) }
         ensures mark { IfOk result (λ flight. F.mark flight ≡ turn_mark F.mark self.now) }
-        ensures busy { IfErr result (λ b. (read seat.new ≡ b.holder) × (0 < b.holder) × (holds seat.new ≡ holds seat.old)) }
-        ensures holder { IfErr result (λ b. (b.holder ≤ seats_of self.now) × (holds seat.old ≡ false → b.holder ≢ number seat.old)) }
+        ensures busy { IfErr result (λ b. (read seat.new ≡ b.holder) × (0 < b.holder)) }
+        ensures refused { IfErr result (λ _. holds seat.new ≡ holds seat.old) }
+        ensures holder { IfErr result (λ b. b.holder ≤ seats_of self.now) }
+        ensures another { IfErr result (λ b. holds seat.old ≡ false → b.holder ≢ number seat.old) }
     {
         let shared = &self.table.shared;
         let found = shared.compare_exchange::<Try>(&mut seat.place, TURN, 0, seat.number);
@@ -105,7 +109,8 @@ impl<F: Kin + Drop> Turn<F> {
         requires held { holds seat.old ≡ true }
         requires mark { F.mark flight ≡ turn_mark F.mark self.now }
         ensures seat { IsSeatOf F.mark self.now seat.new }
-        ensures same { IsSameSeat seat.old seat.new × (steps seat.new ≡ steps seat.old + 1) × (read seat.new ≡ read seat.old) × (recorded seat.new ≡ recorded seat.old) }
+        ensures same { IsStep seat.old seat.new × (recorded seat.new ≡ recorded seat.old) }
+        ensures read { read seat.new ≡ read seat.old }
         ensures given { holds seat.new ≡ false }
     {
         let shared = &self.table.shared;
@@ -117,7 +122,7 @@ impl<F: Kin + Drop> Turn<F> {
     pub fn raise_want(&self, seat: &mut TurnSeat<F>, n: u64)
         requires seat { IsSeatOf F.mark self.now seat.old }
         ensures seat { IsSeatOf F.mark self.now seat.new }
-        ensures same { IsSameSeat seat.old seat.new × (steps seat.new ≡ steps seat.old + 1) × (read seat.new ≡ read seat.old) × (holds seat.new ≡ holds seat.old) }
+        ensures same { IsStep seat.old seat.new × StaysAtTurn seat.old seat.new }
         ensures raised { (n ≤ recorded seat.new) × (recorded seat.old ≤ recorded seat.new) }
     {
         let shared = &self.table.shared;
@@ -128,7 +133,7 @@ impl<F: Kin + Drop> Turn<F> {
     pub fn want(&self, seat: &mut TurnSeat<F>) -> u64
         requires seat { IsSeatOf F.mark self.now seat.old }
         ensures seat { IsSeatOf F.mark self.now seat.new }
-        ensures same { IsSameSeat seat.old seat.new × (steps seat.new ≡ steps seat.old + 1) × (read seat.new ≡ read seat.old) × (holds seat.new ≡ holds seat.old) }
+        ensures same { IsStep seat.old seat.new × StaysAtTurn seat.old seat.new }
         ensures want { (result ≡ recorded seat.new) × (recorded seat.old ≤ result) }
     {
         self.table.shared.load::<Ask>(&mut seat.place, WANT)

@@ -1,4 +1,4 @@
-use Rattle.std.proofs.Common.{rules, ◌≡◌, ◌∷◌, [], Some, subst, sym, ap, arith}
+use Rattle.std.proofs.Common.{rules, ◌≡◌, ◌∷◌, [], Some, subst, sym, ap}
 use Rattle.std.proofs.lemmas.Option.{slice_get-get_or}
 use Rattle.atomic_table.specs.Table.{opening}
 use Rattle.flight_turn.specs.Rule.{Kept, maker}
@@ -13,4 +13,4 @@ pub returns-clause-each : goal.returns-clause-each
 returns-clause-each g c i d within = of_fresh g.F.Kin.mark _ _ _ (c.in_ok-made.ensures.each i _ (slice_get-get_or _ i d within))
 
 pub returns-clause-fresh : goal.returns-clause-fresh
-returns-clause-fresh g c i d within = let v = (c.in_ok-made.ensures.each i _ (slice_get-get_or _ i d (omega (arith, c.in_ok-made.ensures.len, c.from-seats.ensures)))).1 in (ap (λ z. z.number) v, ap (λ z. z.holds) v, ap (λ z. z.want) v)
+returns-clause-fresh g c i d within = let v = (c.in_ok-made.ensures.each i _ (slice_get-get_or _ i d within)).1 in (ap (λ z. z.number) v, ap (λ z. z.holds) v, ap (λ z. z.want) v)

@@ -1,4 +1,4 @@
-use Rattle.std.proofs.Common.{rules, Some, ap, arith}
+use Rattle.std.proofs.Common.{rules, Some, ap}
 use Rattle.flight_turn.proofs.Keeps.{tries, front}
 use Rattle.flight_turn.proofs.turn.Turn.try_take.Goals as goal
 

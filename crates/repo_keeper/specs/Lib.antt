@@ -1,1 +1,5 @@
+pub mod Kept
+pub mod Made
+pub mod MemKept
+pub mod Own
 pub mod Store

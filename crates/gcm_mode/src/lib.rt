@@ -9,4 +9,4 @@ mod seal;
 mod tests;
 
 pub use hash::ghash;
-pub use seal::{GcmRefused, gcm_open, gcm_seal};
+pub use seal::{GcmRefused, gcm_open, gcm_seal, gcm_tag};

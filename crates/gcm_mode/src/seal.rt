@@ -47,7 +47,7 @@ pub fn gcm_seal<B: BlockCipher>(
     ensures { IfOk result (λ v. v.items ≡ sealed (B.cipher cipher.now) nonce.now aad.now plain.now) }
 {
     let mut text = copy_enciphered(alloc, cipher, nonce, plain, 16)?;
-    let tag = tag_of(cipher, nonce, aad, &text);
+    let tag = gcm_tag(cipher, nonce, aad, &text);
     text.extend_from_slice(&tag)?;
     Ok(text)
 }
@@ -78,7 +78,7 @@ pub fn gcm_open<B: BlockCipher>(
     ensures bad_tag { (result ≡ Err GcmRefused.BadTag)
         ↔ (tag.now ≢ gcm_tag (B.cipher cipher.now) nonce.now aad.now enciphered.now) }
 {
-    if *tag != tag_of(cipher, nonce, aad, enciphered) {
+    if *tag != gcm_tag(cipher, nonce, aad, enciphered) {
         return Err(GcmRefused::BadTag);
     }
     Ok(copy_enciphered(alloc, cipher, nonce, enciphered, 0)?)
@@ -102,8 +102,13 @@ fn copy_enciphered<B: BlockCipher>(
     Ok(text)
 }
 
-// The tag of the data and the enciphered bytes.
-fn tag_of<B: BlockCipher>(cipher: &B, nonce: &[u8; 12], aad: &[u8], enciphered: &[u8]) -> [u8; 16]
+/// The tag of the data and of enciphered bytes. Takes no memory.
+pub fn gcm_tag<B: BlockCipher>(
+    cipher: &B,
+    nonce: &[u8; 12],
+    aad: &[u8],
+    enciphered: &[u8],
+) -> [u8; 16]
     requires aad { length aad.now < 2 ^ 32 }
     requires text { length enciphered.now < 2 ^ 32 }
     ensures { result ≡ gcm_tag (B.cipher cipher.now) nonce.now aad.now enciphered.now }

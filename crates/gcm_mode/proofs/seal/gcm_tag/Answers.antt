@@ -1,6 +1,6 @@
 use Rattle.std.proofs.Common.{◌∙◌, refl}
 use Rattle.gcm_mode.specs.Gcm.{gcm_tag}
-use Rattle.gcm_mode.proofs.seal.tag_of.Goals as goal
+use Rattle.gcm_mode.proofs.seal.gcm_tag.Goals as goal
 
 pub returns : goal.returns
 unfolding gcm_tag

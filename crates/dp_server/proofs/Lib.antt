@@ -1,3 +1,4 @@
 pub mod Decimals
 pub mod Lawful
 pub mod Lengths
+pub mod BadPlaces

@@ -2,3 +2,4 @@ pub mod Statuses
 pub mod Words
 pub mod Commands
 pub mod Show
+pub mod Outcomes

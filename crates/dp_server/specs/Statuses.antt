@@ -1,7 +1,5 @@
 -- The number and the message of each status (docs/FORMATS.md, "Statuses").
 use Rattle.std.specs.Prelude.{ℕ, List, Option, Some, None, codes}
-use Rattle.key_elements.specs.declared.refused.ListRefused.{ListRefused}
-use Rattle.key_elements.specs.declared.refused.ListRefused.TheVariants as refused
 use Rattle.dp_server.specs.declared.status.Status.{Status}
 use Rattle.dp_server.specs.declared.status.Status.TheVariants.{Done, BadWords, BadInput, ReadFault, WriteFault, NoMemory}
 
@@ -14,7 +12,7 @@ number_of ReadFault = 4
 number_of WriteFault = 5
 number_of NoMemory = 8
 
--- the text on standard error
+-- the text on standard error; that of bad input names its place, and is no fixed text
 abbrev pub message_of : Status → Option (List ℕ)
 message_of Done = None
 message_of BadWords = Some (codes "dp_server: bad words")
@@ -40,9 +38,3 @@ IsRefusing BadInput = Unit {0}
 IsRefusing ReadFault = Unit {0}
 IsRefusing WriteFault = ⊥
 IsRefusing NoMemory = Unit {0}
-
--- the status of input that was refused as a list
-abbrev pub refusal_status : ListRefused → Status
-refusal_status (refused.At place why) = BadInput
-refusal_status (refused.TooMany place) = BadInput
-refusal_status refused.Memory = NoMemory

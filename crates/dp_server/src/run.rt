@@ -1,25 +1,21 @@
 //! The top call.
 
-ghost use Rattle.std.specs.Prelude.{◌≡◌, ◌≢◌, ◌+◌, ◌↔◌, IfSome, map, string_bytes};
+ghost use Rattle.std.specs.Prelude.{◌≡◌, ◌≢◌, ◌+◌, ◌↔◌, IsSome, IfSome, map, string_bytes};
 ghost use Rattle.dp_base.specs.Counts.{one_more};
 ghost use Rattle.dp_server.specs.declared.status.Status.TheVariants.{Done, BadWords, BadInput, ReadFault, WriteFault};
 ghost use Rattle.dp_server.specs.declared.transfer.TheConstants.{MAX_INPUT};
 ghost use Rattle.dp_server.specs.Words.{IsLawful};
 ghost use Rattle.dp_server.specs.Statuses.{IsAccepting, IsRefusing};
 ghost use Rattle.dp_base.specs.Transfer.{TakesAtMost, Writes, WritesFront};
+ghost use Rattle.dp_server.specs.Outcomes.{IsBadPlace};
 ghost use Rattle.dp_server.specs.Show.{IsListed, IsRefused, IsShowAnd, Shows};
 
+use crate::outcome::Outcome;
 use crate::show::show;
 use crate::status::Status;
 use crate::words::{Command, command_of};
 use dp_base::{Sink, Source};
 use std::alloc::Global;
-
-/// How a run ended.
-#[derive(Clone, Copy, Debug, PartialEq, Eq)]
-pub struct Outcome {
-    pub status: Status,
-}
 
 /// Does what the words ask for. `show MOMENT` reads a list of elements to its end, and writes the
 /// listing of its ring at the moment.
@@ -45,6 +41,10 @@ pub fn run<I: Source, O: Sink>(
     ensures bad_input { result.status ≡ BadInput
         → IsRefused (I.left input.old) (I.left input.new) }
 
+    // Where bad input is wrong is told, and nothing else is.
+    ensures bad { IsSome result.bad ↔ (result.status ≡ BadInput) }
+    ensures place { IfSome result.bad (IsBadPlace (I.left input.old)) }
+
     // One fault is counted where a read or a write failed, and none else.
     ensures read_fault { result.status ≡ ReadFault
         → I.faults input.new ≡ one_more (I.faults input.old) }
@@ -69,9 +69,8 @@ pub fn run<I: Source, O: Sink>(
     ensures silent { result.status ≢ Done → result.status ≢ WriteFault → output.new ≡ output.old }
     ensures takes { TakesAtMost (MAX_INPUT + 1) (I.left input.old) (I.left input.new) }
 {
-    let status = match command_of(words) {
+    match command_of(words) {
         Some(Command::Show { moment }) => show(alloc, moment, input, output),
-        None => Status::BadWords,
-    };
-    Outcome { status }
+        None => Outcome::of(Status::BadWords),
+    }
 }

@@ -28,7 +28,8 @@ impl Status {
         self as u8
     }
 
-    /// The line that is printed on standard error, if there is one.
+    /// The line that is printed on standard error, if there is a fixed one: that of bad input names
+    /// its place.
     pub fn message(self) -> Option<&'static str>
         ensures { option_map (λ m. m.now) result ≡ message_of self }
     {

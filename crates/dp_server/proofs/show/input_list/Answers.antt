@@ -1,7 +1,6 @@
-use Rattle.std.proofs.Common.{ap}
 use Rattle.key_elements.specs.Record.{IsList}
-use Rattle.dp_server.specs.Statuses.{refusal_status}
 use Rattle.dp_server.proofs.Lengths.{IsWhole-front, IsRefused-front}
+use Rattle.dp_server.proofs.BadPlaces.{not_memory, bad_place}
 use Rattle.dp_server.proofs.show.input_list.Goals as goal
 
 pub returns-in-Ok-read_list-clause-list : goal.returns-in-Ok-read_list-clause-list
@@ -13,5 +12,9 @@ pub returns-clause-bad_input : goal.returns-clause-bad_input
 returns-clause-bad_input g c = λ e.
     IsRefused-front _ _ c.in-Ok.bytes.items c.in-Ok.ensures.value (λ es list.
     let again : IsList c.as_slice.result.now es = rw c.as_slice.ensures.value list in
-    let memory = c.in-Err.ensures.only es again in
-    absurd (cc (e, c.refusal_status.ensures, ap refusal_status memory)))
+    not_memory c.of_refusal.result c.in-Err.refused c.of_refusal.ensures e (c.in-Err.ensures.only es again))
+
+pub returns-clause-place : goal.returns-clause-place
+returns-clause-place g c =
+    let cause = rw c.as_slice.ensures.value at c.in-Err.ensures.refused in
+    bad_place _ _ c.in-Ok.bytes.items c.of_refusal.result c.in-Err.refused c.in-Ok.ensures.value cause c.of_refusal.ensures

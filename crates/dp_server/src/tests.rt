@@ -1,33 +1,40 @@
 use super::*;
-use dp_base::{MemSink, MemSource};
+use crate::outcome::{BadPlace, BadWhy};
+use dp_base::{KeyId, MemSink, MemSource};
+use key_elements::{Element, ElementRefused, KeyRecord, Reason, encode};
 use std::alloc::Global;
 use std::test::Fail;
 
-// The bytes of the id 0c819c80-6619-4019-9536-53f8aaffee57.
-const K1: [u8; 16] = [
-    0x80, 0x9c, 0x81, 0x0c, 0x19, 0x66, 0x19, 0x40, 0x95, 0x36, 0x53, 0xf8, 0xaa, 0xff, 0xee, 0x57,
-];
+const K1: KeyId = KeyId(0x0c81_9c80_6619_4019_9536_53f8_aaff_ee57);
 
-// The bytes of an id whose text is 00000000-0000-4000-8000-0000000000 and two more digits.
-fn small_id(last: u8) -> [u8; 16] {
-    [0, 0, 0, 0, 0, 0, 0, 0x40, 0x80, 0, 0, 0, 0, 0, 0, last]
+// The ids 00000000-0000-4000-8000-00000000000a to c.
+const A: KeyId = KeyId(0x4000_8000_0000_0000_000a);
+
+const B: KeyId = KeyId(0x4000_8000_0000_0000_000b);
+
+const C: KeyId = KeyId(0x4000_8000_0000_0000_000c);
+
+// A day number of the samples, in ticks.
+fn day(n: u64) -> u64 {
+    638_000_000_000_000_000u64.saturating_add(n.saturating_mul(864_000_000_000))
 }
 
-// Adds a key that is made and activated at day 0, expires at day 90, and has a material of zeros.
-fn put_key(bytes: &mut Vec<u8>, id: [u8; 16], code: u8) -> Result<(), Fail> {
-    bytes.push(1)?;
-    bytes.extend_from_slice(&id)?;
-    bytes.extend_from_slice(&638_000_000_000_000_000u64.to_be_bytes())?;
-    bytes.extend_from_slice(&638_000_000_000_000_000u64.to_be_bytes())?;
-    bytes.extend_from_slice(&638_077_760_000_000_000u64.to_be_bytes())?;
-    bytes.push(code)?;
-    bytes.extend_from_slice(&[0; 64])?;
-    Ok(())
+// A key that is made, activated and expires on these days, with a material of zeros.
+fn key(id: KeyId, days: [u64; 3], alg: u8) -> Element {
+    let [creation, activation, expiration] = days;
+    Element::Key(KeyRecord {
+        id,
+        creation: day(creation),
+        activation: day(activation),
+        expiration: day(expiration),
+        alg,
+        material: [0; 64],
+    })
 }
 
 fn one_key(alloc: Global, code: u8) -> Result<Vec<u8>, Fail> {
     let mut bytes = Vec::new(alloc);
-    put_key(&mut bytes, K1, code)?;
+    encode(alloc, &key(K1, [0, 0, 90], code), &mut bytes)?;
     Ok(bytes)
 }
 
@@ -45,13 +52,13 @@ const WELL: Outside<'static> = Outside {
     fail_writes: &[],
 };
 
-// The status, and the text written.
+// How the run ended, and the text written.
 fn answer(
     alloc: Global,
     texts: &[&str],
     bytes: Vec<u8>,
     outside: &Outside<'_>,
-) -> Result<(Status, String), Fail> {
+) -> Result<(Outcome, String), Fail> {
     let mut words = Vec::new(alloc);
     for text in texts {
         words.push(String::from_str(alloc, text)?)?;
@@ -61,7 +68,7 @@ fn answer(
     let mut output = MemSink::new(alloc, piece, outside.fail_writes.to_vec(alloc)?);
     let outcome = run(alloc, words.as_slice(), &mut input, &mut output);
     let written = String::from_utf8(output.into_bytes()).ok().ok_or("text")?;
-    Ok((outcome.status, written))
+    Ok((outcome, written))
 }
 
 // docs/FORMATS.md, "Listing".
@@ -81,8 +88,8 @@ fn no_keys(rt: HostRuntime) -> Result<(), Fail> {
     ];
     for (moment, first) in table {
         let alloc = rt.alloc();
-        let (status, text) = answer(alloc, &["show", moment], Vec::new(alloc), &WELL)?;
-        assert_eq!(rt; status, Status::Done, "{moment}");
+        let (end, text) = answer(alloc, &["show", moment], Vec::new(alloc), &WELL)?;
+        assert_eq!(rt; end.status, Status::Done, "{moment}");
         let wanted = format!(in alloc; "{first}mass none\ndefault none\nrenew yes\n")?;
         assert_eq!(rt; text.as_str(), wanted.as_str(), "{moment}");
     }
@@ -107,8 +114,8 @@ fn moments(rt: HostRuntime) -> Result<(), Fail> {
             let alloc = rt.alloc();
             let outside = Outside { piece, ..WELL };
             let bytes = one_key(alloc, 3)?;
-            let (status, text) = answer(alloc, &["show", moment], bytes, &outside)?;
-            assert_eq!(rt; status, Status::Done, "{moment}");
+            let (end, text) = answer(alloc, &["show", moment], bytes, &outside)?;
+            assert_eq!(rt; end.status, Status::Done, "{moment}");
             let wanted = format!(in alloc; "ring 1 elements at {moment}\n{ONE_KEY}{last}")?;
             assert_eq!(rt; text.as_str(), wanted.as_str(), "{moment}");
         }
@@ -140,8 +147,8 @@ fn choices(rt: HostRuntime) -> Result<(), Fail> {
     let (_, text) = answer(alloc, &words, one_key(alloc, 200)?, &WELL)?;
     assert_eq!(rt; text.as_str(), UNUSABLE);
     let mut two = Vec::new(alloc);
-    put_key(&mut two, small_id(0x0b), 3)?;
-    put_key(&mut two, small_id(0x0a), 3)?;
+    encode(alloc, &key(B, [0, 0, 90], 3), &mut two)?;
+    encode(alloc, &key(A, [0, 0, 90], 3), &mut two)?;
     let (_, text) = answer(alloc, &words, two, &WELL)?;
     assert_eq!(rt; text.as_str(), TWO_KEYS);
     Ok(())
@@ -163,26 +170,75 @@ fn bad_words(rt: HostRuntime) -> Result<(), Fail> {
         &["show", "1", "1"],
     ];
     for words in table {
-        let (status, text) = answer(alloc, words, one_key(alloc, 3)?, &WELL)?;
-        assert_eq!(rt; status, Status::BadWords, "{words:?}");
+        let (end, text) = answer(alloc, words, one_key(alloc, 3)?, &WELL)?;
+        assert_eq!(rt; end.status, Status::BadWords, "{words:?}");
         assert_eq!(rt; text.as_str(), "", "{words:?}");
     }
     Ok(())
 }
 
-// A record that is cut, and a first byte of no kind.
+// Where input is wrong: in its second record, in its first byte, and in the length of a reason.
 #[test]
 fn bad_input(rt: HostRuntime) -> Result<(), Fail> {
     let alloc = rt.alloc();
     let mut cut = one_key(alloc, 3)?;
-    cut.push(1)?;
-    let mut foreign = Vec::new(alloc);
-    foreign.push(9)?;
-    for bytes in [cut, foreign] {
-        let (status, text) = answer(alloc, &["show", "1000"], bytes, &WELL)?;
-        assert_eq!(rt; status, Status::BadInput);
+    cut.push(2)?;
+    let foreign = [9].to_vec(alloc)?;
+    let mut long = one_key(alloc, 3)?;
+    long.extend_from_slice(&[3, 0, 0, 0, 0, 0, 0, 0, 0, 0x81, 0x08])?;
+    let table = [
+        (cut, 106, ElementRefused::Cut),
+        (foreign, 0, ElementRefused::UnknownKind),
+        (long, 106, ElementRefused::BadReason),
+    ];
+    for (bytes, place, why) in table {
+        let (end, text) = answer(alloc, &["show", "1000"], bytes, &WELL)?;
+        let why = BadWhy::Element(why);
+        assert_eq!(rt; end.status, Status::BadInput);
+        assert_eq!(rt; end.bad, Some(BadPlace { place, why }));
         assert_eq!(rt; text.as_str(), "");
     }
+    Ok(())
+}
+
+const FIVE: &str = "ring 5 elements at 638103680000000000\n\
+    mass 638043200000000000\n\
+    key 00000000-0000-4000-8000-00000000000a created 638000000000000000 \
+    activates 638000000000000000 expires 638077760000000000 alg 3 revoked\n\
+    key 00000000-0000-4000-8000-00000000000b created 638076032000000000 \
+    activates 638077760000000000 expires 638153792000000000 alg 3 revoked\n\
+    key 00000000-0000-4000-8000-00000000000c created 638086400000000000 \
+    activates 638086400000000000 expires 638164160000000000 alg 3 active\n\
+    default 00000000-0000-4000-8000-00000000000c by preference\n\
+    renew no\n";
+
+// docs/FORMATS.md, "Listing": three keys, of which a date and an id revoke one each.
+#[test]
+fn five_records(rt: HostRuntime) -> Result<(), Fail> {
+    let alloc = rt.alloc();
+    let id = B;
+    let elements = [
+        key(A, [0, 0, 90], 3),
+        key(B, [88, 90, 178], 3),
+        Element::RevokeBefore {
+            date: day(50),
+            reason: Reason::new(alloc, "leak")?,
+        },
+        Element::RevokeKey {
+            id,
+            date: day(100),
+            reason: Reason::new(alloc, "lost laptop")?,
+        },
+        key(C, [100, 100, 190], 3),
+    ];
+    let mut bytes = Vec::new(alloc);
+    for element in &elements {
+        encode(alloc, element, &mut bytes)?;
+    }
+    assert_eq!(rt; bytes.len(), 369);
+    let (end, text) = answer(alloc, &["show", "638103680000000000"], bytes, &WELL)?;
+    assert_eq!(rt; (end.status, end.bad), (Status::Done, None));
+    assert_eq!(rt; text.as_str(), FIVE);
     Ok(())
 }
 
@@ -202,8 +258,8 @@ fn faults(rt: HostRuntime) -> Result<(), Fail> {
             fail_writes,
         };
         let words = ["show", "638000000000000000"];
-        let (told, text) = answer(alloc, &words, one_key(alloc, 3)?, &outside)?;
-        assert_eq!(rt; told, status);
+        let (end, text) = answer(alloc, &words, one_key(alloc, 3)?, &outside)?;
+        assert_eq!(rt; (end.status, end.bad), (status, None));
         assert_eq!(rt; text.as_str(), written);
     }
     Ok(())

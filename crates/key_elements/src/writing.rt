@@ -57,9 +57,11 @@ fn put_record(e: &Element, out: &mut Vec<u8>) -> Result<(), Memory>
 }
 
 /// Adds the record of the element. Where no memory is found, nothing is added.
+///
+/// An element with a date above the greatest has no record: its bytes are added and can't be read.
 pub fn encode(alloc: Global, e: &Element, out: &mut Vec<u8>) -> Result<(), Memory>
-    requires { IsElement e.now }
-    ensures ok { OnOk result (Adds out.old.items out.new.items e.now) }
+    ensures ok { OnOk result (out.new.items ≡ out.old.items ++ record_of e.now) }
+    ensures record { IsElement e.now → OnOk result (Adds out.old.items out.new.items e.now) }
     ensures err { OnErr result (out.new.items ≡ out.old.items) }
 {
     let mut record = Vec::new(alloc);

@@ -4,16 +4,22 @@
     samples/records.py encode < list.txt > list.records
     samples/records.py decode < list.records > list.txt
 
-The text has one record a line, its words with blanks between them. What follows a # is a comment,
-and lines without a word are skipped. The one form of record is
+The text has one record a line, its words with blanks between them. What follows a # outside of
+quotes is a comment, and lines without a word are skipped. The forms of record are
 
     key ID created C activates A expires X alg N material M
+    revoke ID at D reason "TEXT"
+    revoke-before D reason "TEXT"
 
-ID          the key's id in hexadecimal with hyphens, as 0c819c80-6619-4019-9536-53f8aaffee57
+ID          a key's id in hexadecimal with hyphens, as 0c819c80-6619-4019-9536-53f8aaffee57
 C, A, X     its creation, activation and expiration: ticks of 100 ns since 0001-01-01 UTC in decimal
             digits, at most 3155378975999999999. A day has 864000000000 ticks
 N           the code of its algorithm, 0 to 255. 1 to 9 can be used
 M           the 64 bytes of its key material in 128 hexadecimal digits, or the word zeros
+D           the date of a revocation, in such ticks. revoke-before revokes each key that was made
+            before it
+TEXT        why, of at most 1024 bytes in UTF-8, on one line: \" is a quote, \\ a backslash, and
+            \n, \r and \t are a line's end, its carriage return and a tab
 
 A list has at most 16384 records. A text or a list that is none is refused by one line on standard
 error and the exit status 1, and nothing is written.
@@ -25,6 +31,7 @@ import uuid
 
 MAX_TICKS = 3155378975999999999
 MAX_RECORDS = 16384
+MAX_REASON = 1024
 
 
 class Refused(Exception):
@@ -48,6 +55,27 @@ class Reader:
     def take_number(self, count):
         return int.from_bytes(self.take(count), "big")
 
+    def take_7bit(self):
+        """A number in groups of 7 bits, the lowest first, in its shortest form."""
+        number = 0
+        for at in range(5):
+            group = self.take_number(1)
+            number |= (group & 127) << 7 * at
+            if group < 128:
+                if number >= 1 << 32 or (at > 0 and group == 0):
+                    break
+                return number
+        raise Refused("the length of the reason is overlong")
+
+    def take_reason(self):
+        length = self.take_7bit()
+        if length > MAX_REASON:
+            raise Refused(f"the reason has {length} bytes, more than {MAX_REASON}")
+        try:
+            return self.take(length).decode("utf-8")
+        except UnicodeDecodeError:
+            raise Refused("the reason is no text")
+
     def take_date(self):
         ticks = self.take_number(8)
         if ticks > MAX_TICKS:
@@ -59,6 +87,42 @@ def number_of(name, text, most):
     if not re.fullmatch("0|[1-9][0-9]{0,18}", text) or int(text) > most:
         raise Refused(f"{name} is {text}, and not a decimal number of at most {most}")
     return int(text)
+
+
+def id_of(text):
+    if not re.fullmatch("[0-9a-fA-F]{8}(-[0-9a-fA-F]{4}){3}-[0-9a-fA-F]{12}", text):
+        raise Refused(f"{text} is no id")
+    return uuid.UUID(text)
+
+
+ESCAPES = {'"': '"', "\\": "\\", "n": "\n", "r": "\r", "t": "\t"}
+
+
+def reason_of(word):
+    """The reason that a word in quotes stands for."""
+    if len(word) < 2 or word[0] != '"':
+        raise Refused(f"the reason {word} isn't in quotes")
+    text = re.sub(r"\\(.)", lambda it: ESCAPES[it[1]], word[1:-1])
+    if len(text.encode("utf-8")) > MAX_REASON:
+        raise Refused(f"the reason has more than {MAX_REASON} bytes")
+    return text
+
+
+def quoted(reason):
+    """The word in quotes of a reason."""
+    names = {text: name for name, text in ESCAPES.items()}
+    return '"' + "".join(f"\\{names[it]}" if it in names else it for it in reason) + '"'
+
+
+def reason_bytes(reason):
+    """A reason in a record: its length in groups of 7 bits, and its bytes."""
+    text = reason.encode("utf-8")
+    groups = []
+    left = len(text)
+    while left >= 128:
+        groups.append(128 | left & 127)
+        left >>= 7
+    return bytes([*groups, left]) + text
 
 
 class Key:
@@ -81,15 +145,14 @@ class Key:
         if len(words) != 12 or words[2::2] != cls.names:
             raise Refused("a key is 'key ID created C activates A expires X alg N material M'")
         id_text, material = words[1], words[11]
-        if not re.fullmatch("[0-9a-fA-F]{8}(-[0-9a-fA-F]{4}){3}-[0-9a-fA-F]{12}", id_text):
-            raise Refused(f"{id_text} is no id")
+        key_id = id_of(id_text)
         if material == "zeros":
             material = "00" * 64
         if not re.fullmatch("[0-9a-fA-F]{128}", material):
             raise Refused("the material is neither 128 hexadecimal digits nor zeros")
         dates = [number_of(words[at], words[at + 1], MAX_TICKS) for at in (2, 4, 6)]
         alg = number_of("alg", words[9], 255)
-        return cls(uuid.UUID(id_text), *dates, alg, bytes.fromhex(material))
+        return cls(key_id, *dates, alg, bytes.fromhex(material))
 
     @classmethod
     def of_bytes(cls, reader):
@@ -110,8 +173,82 @@ class Key:
         return bytes([self.first, *b"".join(fields), self.alg]) + self.material
 
 
+class Revocation:
+    """The record of a key's revocation."""
+
+    first = 2
+    word = "revoke"
+
+    def __init__(self, key_id, date, reason):
+        self.key_id = key_id
+        self.date = date
+        self.reason = reason
+
+    @classmethod
+    def of_words(cls, words):
+        if len(words) != 6 or words[2::2] != ["at", "reason"]:
+            raise Refused("a revocation is 'revoke ID at D reason \"TEXT\"'")
+        date = number_of("at", words[3], MAX_TICKS)
+        return cls(id_of(words[1]), date, reason_of(words[5]))
+
+    @classmethod
+    def of_bytes(cls, reader):
+        key_id = uuid.UUID(bytes_le=reader.take(16))
+        return cls(key_id, reader.take_date(), reader.take_reason())
+
+    def as_text(self):
+        return f"revoke {self.key_id} at {self.date} reason {quoted(self.reason)}"
+
+    def as_bytes(self):
+        date = self.date.to_bytes(8, "big")
+        return bytes([self.first]) + self.key_id.bytes_le + date + reason_bytes(self.reason)
+
+
+class MassRevocation:
+    """The record of a revocation of every key that was made before a date."""
+
+    first = 3
+    word = "revoke-before"
+
+    def __init__(self, date, reason):
+        self.date = date
+        self.reason = reason
+
+    @classmethod
+    def of_words(cls, words):
+        if len(words) != 4 or words[2] != "reason":
+            raise Refused("a mass revocation is 'revoke-before D reason \"TEXT\"'")
+        return cls(number_of("revoke-before", words[1], MAX_TICKS), reason_of(words[3]))
+
+    @classmethod
+    def of_bytes(cls, reader):
+        return cls(reader.take_date(), reader.take_reason())
+
+    def as_text(self):
+        return f"revoke-before {self.date} reason {quoted(self.reason)}"
+
+    def as_bytes(self):
+        return bytes([self.first]) + self.date.to_bytes(8, "big") + reason_bytes(self.reason)
+
+
 # The forms of record. Each has the first byte and the first word by which it is known.
-FORMS = [Key]
+FORMS = [Key, Revocation, MassRevocation]
+
+
+def words_of(line):
+    """The words of a line before its comment. One in quotes keeps them, its blanks and its #."""
+    words = []
+    rest = line.strip()
+    while rest and rest[0] != "#":
+        if rest[0] == '"':
+            word = re.match(r'"([^"\\]|\\["\\nrt])*"', rest)
+        else:
+            word = re.match(r'[^\s#"]+', rest)
+        if not word:
+            raise Refused("a quote isn't closed")
+        words.append(word[0])
+        rest = rest[len(word[0]) :].lstrip()
+    return words
 
 
 def form_known(name, is_known):
@@ -131,10 +268,10 @@ def of_text(text):
     """The records of a text."""
     records = []
     for number, line in enumerate(text.split("\n"), 1):
-        words = line.split("#")[0].split()
-        if not words:
-            continue
         try:
+            words = words_of(line)
+            if not words:
+                continue
             check_room(records)
             form = form_known(words[0], lambda it: it.word == words[0])
             records.append(form.of_words(words))

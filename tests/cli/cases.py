@@ -13,7 +13,7 @@ TOP = os.path.dirname(os.path.dirname(os.path.dirname(os.path.abspath(__file__))
 sys.path.insert(0, os.path.join(TOP, "samples"))
 
 from listing import DAY, LAST, PROPAGATION, SKEW, listing
-from records import MAX_RECORDS, MAX_TICKS, Key
+from records import MAX_RECORDS, MAX_TICKS, Key, MassRevocation, Revocation
 
 # The program is started by a line of sh, whose "$0" and "$@" are the program and its words.
 Case = namedtuple("Case", "name words input status output error shell")
@@ -23,7 +23,7 @@ BAD_WORDS = "dp_server: bad words\n"
 READING_FAILED = "dp_server: reading failed\n"
 WRITING_FAILED = "dp_server: writing failed\n"
 
-# A list of records never has more bytes than this; a list of keys has far fewer.
+# A list of records never has more bytes than this.
 LARGEST_INPUT = 17219584
 
 
@@ -52,8 +52,12 @@ renew {renew}
 EMPTY_LISTING = "ring 0 elements at {now}\nmass none\ndefault none\nrenew yes\n"
 
 
-def bytes_of(keys):
-    return b"".join(key.as_bytes() for key in keys)
+# The longest record: a reason of 1,024 bytes.
+LONGEST = Revocation(K1, 0, "\u00e9" * 512)
+
+
+def bytes_of(records):
+    return b"".join(record.as_bytes() for record in records)
 
 
 def shown(name, moment, given, output, shell=PLAIN):
@@ -73,9 +77,10 @@ def bad_words(words, given=b"", shell=PLAIN, error=BAD_WORDS):
     return Case(name, words, given, 2, "", error, shell)
 
 
-def bad_input(name, given, shell=PLAIN):
-    """The input is no list: of which nothing is said."""
-    return Case(name, ["show", "1000"], given, 3, "", "", shell)
+def bad_input(name, given, place, shell=PLAIN):
+    """The input is no list, and is wrong in the record that begins at this byte."""
+    error = f"dp_server: bad input at byte {place}\n"
+    return Case(name, ["show", "1000"], given, 3, "", error, shell)
 
 
 def worked():
@@ -124,6 +129,15 @@ key 0c819c80-6619-4019-9536-53f8aaffee57 created 638000000000000000 activates \
 default none
 renew yes
 """,
+        ),
+        shown(
+            "a revocation in literal bytes",
+            1000,
+            bytes.fromhex(
+                "02 00 00 00 00 00 00 00 40 80 00 00 00 00 00 00 0B 08 DA F0 33 38 02 00 00 0B"
+                "6C 6F 73 74 20 6C 61 70 74 6F 70"
+            ),
+            "ring 1 elements at 1000\nmass none\ndefault none\nrenew yes\n",
         ),
         shown("the greatest moment", MAX_TICKS, b"", EMPTY_LISTING.format(now=LAST)),
         shown("the last moment", LAST, b"", EMPTY_LISTING.format(now=3152225375999999999)),
@@ -175,6 +189,23 @@ key 5be61d84-7f39-4092-ad5c-084fc1926e7d created 638082080000000000 activates \
 638082080000000000 expires 638159840000000000 alg 0 unusable
 default 08fd5b17-a24c-4e80-91c6-e35720bd849a by fallback
 renew yes
+""",
+        ),
+        shown(
+            "samples/revoked",
+            638103680000000000,
+            sample("revoked"),
+            """\
+ring 5 elements at 638103680000000000
+mass 638043200000000000
+key 00000000-0000-4000-8000-00000000000a created 638000000000000000 activates \
+638000000000000000 expires 638077760000000000 alg 3 revoked
+key 00000000-0000-4000-8000-00000000000b created 638076032000000000 activates \
+638077760000000000 expires 638153792000000000 alg 3 revoked
+key 00000000-0000-4000-8000-00000000000c created 638086400000000000 activates \
+638086400000000000 expires 638164160000000000 alg 3 active
+default 00000000-0000-4000-8000-00000000000c by preference
+renew no
 """,
         ),
         shown(
@@ -247,8 +278,9 @@ def dates():
         for above in [MAX_TICKS + 1, 1 << 63, (1 << 64) - 1]:
             chosen[at] = above
             key = Key(K1, *chosen, 3)
-            made.append(bad_input(f"{name} {above}", key.as_bytes()))
-            made.append(bad_input(f"{name} {above} after a key", K1_RECORD + key.as_bytes()))
+            made.append(bad_input(f"{name} {above}", key.as_bytes(), 0))
+            after = K1_RECORD + key.as_bytes()
+            made.append(bad_input(f"{name} {above} after a key", after, 106))
     alike = Key(K1, day(5), day(5), day(5), 3)
     turned = Key(K1, day(9), day(7), day(3), 3)
     nothing = Key(uuid.UUID(int=0), 0, 0, 0, 0)
@@ -258,36 +290,89 @@ def dates():
     return made
 
 
+def revocations():
+    """Which records revoke which keys, one tick to both sides, and what is none."""
+    now = day(100)
+    key = Key(small_id("a"), day(0), day(1), day(200), 3)
+    other = Key(small_id("b"), day(2), day(3), day(200), 3)
+    made = []
+    for tick in [-1, 0, 1]:
+        mass = MassRevocation(day(0) + tick, "leak")
+        made.append(listed(f"a key made {-tick} beside a mass date", now, [key, mass]))
+        made.append(listed(f"one made after, {tick}", now, [mass, key, other]))
+    for reason in ["", "lost laptop", LONGEST.reason]:
+        revoked = [key, other, Revocation(other.key_id, 0, reason)]
+        made.append(listed(f"a reason of {len(reason)} characters", now, revoked))
+    early = Revocation(other.key_id, MAX_TICKS, "before it was made")
+    made.append(listed("a key revoked before it comes", now, [early, key, other]))
+    made.append(listed("a revoked key that comes again", now, [other, early, key, other]))
+    made.append(listed("an id that no key has", now, [early]))
+    late = Key(key.key_id, day(60), day(61), day(200), 3)
+    mass = MassRevocation(day(50), "")
+    made.append(listed("a later record after a mass date", now, [key, mass, late]))
+    made.append(listed("an earlier record after a later", now, [late, mass, key]))
+    dates = [MassRevocation(date, "") for date in (day(1), day(0), day(2) + 1, day(2))]
+    made.append(listed("several mass dates", now, [key, *dates, other]))
+    made.append(listed("the greatest dates", now, [key, MassRevocation(MAX_TICKS, "")]))
+    date = (0).to_bytes(8, "big")
+    whole = Revocation(key.key_id, 7, "\u00e9\U0001f511 twice").as_bytes()
+    made.append(shown("a reason that is no ASCII", now, whole, listing([early], now)))
+    for count in range(1, len(whole)):
+        made.append(bad_input(f"a revocation cut after {count} bytes", whole[:count], 0))
+    for name, tail in [
+        ("1025 bytes", bytes([0x81, 8]) + bytes(1025)),
+        ("1025 bytes, none there", bytes([0x81, 8])),
+        ("a length with a group too many", bytes([0x80, 0])),
+        ("a length of five groups and no end", bytes([0xFF] * 5)),
+        ("a length of 2^32", bytes([0x80, 0x80, 0x80, 0x80, 0x10])),
+        ("no text", bytes([1, 0xFF])),
+        ("half a character", bytes([1, 0xC3])),
+        ("a surrogate", bytes([3, 0xED, 0xA0, 0x80])),
+        ("bytes behind it", bytes([0, 0])),
+    ]:
+        at = 10 if name == "bytes behind it" else 0
+        made.append(bad_input(f"a mass revocation with {name}", bytes([3]) + date + tail, at))
+    for above in [MAX_TICKS + 1, (1 << 64) - 1]:
+        for kind in [Revocation(key.key_id, above, ""), MassRevocation(above, "")]:
+            name = f"{kind.word} with the date {above}"
+            made.append(bad_input(name, key.as_bytes() + kind.as_bytes(), 106))
+    return made
+
+
 def inputs():
     """What is no list of records."""
     made = [
-        bad_input(f"cut after {count} bytes", K1_RECORD[:count])
+        bad_input(f"cut after {count} bytes", K1_RECORD[:count], 0)
         for count in [1, 2, 16, 17, 24, 25, 33, 41, 42, 105]
     ]
     made += [
-        bad_input(f"a key and {count} bytes", K1_RECORD + K1_RECORD[:count]) for count in [1, 105]
+        bad_input(f"a key and {count} bytes", K1_RECORD + K1_RECORD[:count], 106)
+        for count in [1, 105]
     ]
-    for first in [0, 2, 3, 4, 128, 255]:
+    for first in [0, 4, 128, 255]:
         foreign = bytes([first]) + K1_RECORD[1:]
-        made.append(bad_input(f"first byte {first}", foreign))
-        made.append(bad_input(f"first byte {first} after a key", K1_RECORD + foreign))
-        made.append(bad_input(f"first byte {first} alone", bytes([first])))
+        made.append(bad_input(f"first byte {first}", foreign, 0))
+        made.append(bad_input(f"first byte {first} after a key", K1_RECORD + foreign, 106))
+        made.append(bad_input(f"first byte {first} alone", bytes([first]), 0))
     many = [
         Key(uuid.UUID(int=at << 100 | at), day(at % 50), day(at % 70), day(90 + at % 7), at % 11)
         for at in range(MAX_RECORDS)
     ]
     full = bytes_of(many)
+    largest = LONGEST.as_bytes() * MAX_RECORDS
     times = LARGEST_INPUT // len(K1_RECORD) + 1
     return made + [
         listed("as many keys as may be", day(60), many),
         listed("as many records of one key", day(60), [many[7]] * MAX_RECORDS),
-        bad_input("one key more", full + K1_RECORD),
-        bad_input("one byte more", full + b"\1"),
-        bad_input("as many bytes as may be", (K1_RECORD * times)[:LARGEST_INPUT]),
-        bad_input("one byte more than may be", (K1_RECORD * times)[: LARGEST_INPUT + 1]),
-        bad_input("far more bytes", K1_RECORD * (2 * times)),
-        bad_input("zeros without end", b"", f"{PLAIN} </dev/zero"),
-        bad_input("a key and zeros without end", K1_RECORD, 'cat - /dev/zero | "$0" "$@"'),
+        bad_input("one key more", full + K1_RECORD, len(full)),
+        bad_input("one byte more", full + b"\1", len(full)),
+        bad_input("as many bytes as may be", (K1_RECORD * times)[:LARGEST_INPUT], len(full)),
+        bad_input("a byte more than may be", (K1_RECORD * times)[: LARGEST_INPUT + 1], len(full)),
+        bad_input("far more bytes", K1_RECORD * (2 * times), len(full)),
+        bad_input("zeros without end", b"", 0, f"{PLAIN} </dev/zero"),
+        bad_input("a key and zeros without end", K1_RECORD, 106, 'cat - /dev/zero | "$0" "$@"'),
+        listed("the largest list", day(60), [LONGEST] * MAX_RECORDS),
+        bad_input("the largest list and a byte", largest + b"\1", LARGEST_INPUT),
         Case(
             "a long listing and no room for it",
             ["show", "0"],
@@ -336,8 +421,8 @@ def streams():
         bad_words(["show", "-1"], shell=f"{PLAIN} >&-"),
         bad_words(["show", "01"], given=b"\0"),
         bad_words(["show", "1x"], shell=f"{PLAIN} 2>&-", error=""),
-        bad_input("a foreign byte and output >&-", b"\0", f"{PLAIN} >&-"),
-        bad_input("a cut record and output >/dev/full", b"\1", f"{PLAIN} >/dev/full"),
+        bad_input("a foreign byte and output >&-", b"\0", 0, f"{PLAIN} >&-"),
+        bad_input("a cut record and output >/dev/full", b"\1", 0, f"{PLAIN} >/dev/full"),
     ]
 
 
@@ -414,7 +499,19 @@ def drawn():
         for _ in range(3):
             moment = drawn_moment(draw, keys)
             made.append(listed(f"list {number} at {moment}", moment, keys))
+            mixed = with_revocations(draw, keys)
+            made.append(listed(f"list {number} with revocations at {moment}", moment, mixed))
     return made
+
+
+def with_revocations(draw, keys):
+    """The keys, with a few revocations of them between."""
+    records = list(keys)
+    for _ in range(draw.randrange(4)):
+        key = draw.choice(keys)
+        made = [Revocation(key.key_id, key.creation, ""), MassRevocation(key.creation, "leak")]
+        records.insert(draw.randrange(len(records) + 1), draw.choice(made))
+    return records
 
 
 def drawn_keys(draw):
@@ -451,5 +548,5 @@ def drawn_moment(draw, keys):
 
 
 def all_cases():
-    groups = [worked, samples, policy, dates, inputs, streams, moments, words, drawn]
+    groups = [worked, samples, policy, dates, revocations, inputs, streams, moments, words, drawn]
     return [case for group in groups for case in group()]

@@ -1,0 +1,5 @@
+pub mod Course
+pub mod Lists
+pub mod Flight
+pub mod Path
+pub mod Placing

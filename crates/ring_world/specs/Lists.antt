@@ -1,0 +1,25 @@
+-- What reads and appends give of a list that grows. Where a repository tells its list, told is that
+-- list at the end of the call.
+use Rattle.std.specs.Prelude.{◌≡◌, ℕ, ◌≤◌, nat_le, if◌then◌else◌, List, [], ◌∷◌, ◌++◌, length, drop, take, Option, IfSome}
+use Rattle.key_elements.specs.declared.element.Element.{Element}
+use Rattle.key_elements.specs.Lists.{Extends}
+
+-- the longer of the two, of two as long the first
+abbrev pub longer : List Element → List Element → List Element
+longer own list = if nat_le (length list) (length own) then own else list
+
+-- the list begins with the base, and its rest is what the repository holds from there on
+abbrev pub IsReadFrom : Option (List Element) → List Element → List Element → Type 0
+IsReadFrom told base es =
+    Extends es base
+    × IfSome told (λ list. (length base ≤ length list) × (drop (length base) es ≡ drop (length base) list))
+
+-- the list begins with the base, and its rest is what the repository holds there
+abbrev pub IsReadUpTo : Option (List Element) → List Element → List Element → Type 0
+IsReadUpTo told base es =
+    Extends es base
+    × IfSome told (λ list. drop (length base) es ≡ drop (length base) (take (length es) list))
+
+-- the list that grew begins with the one from before, and ends with the element
+abbrev pub IsGrown : List Element → Element → List Element → Type 0
+IsGrown es e fs = (others : List Element) × (fs ≡ es ++ (others ++ e ∷ []))

@@ -1,0 +1,135 @@
+-- The lawful paths of a call that needs a ring: a pass that has seen the list own asks at a moment
+-- for a ring with at least need elements.
+use Rattle.std.specs.Prelude.{◌≡◌, ℕ, ◌<◌, ◌≤◌, Bool, true, false, ◌&&◌, nat_le, max, is_none, List, [], ◌∷◌, ◌++◌, length, Option, Some, None, Result, Ok, Err, IfSome, if◌then◌else◌}
+use Rattle.key_elements.specs.declared.element.Element.{Element}
+use Rattle.key_elements.specs.Lists.{IsFirstDifference}
+use Rattle.key_ring.specs.Ring.{RingOf, ring_of, due}
+use Rattle.ring_world.specs.declared.step.Step.{Step}
+use Rattle.ring_world.specs.declared.step.Step.TheVariants.{Take, Busy, Give, PrivateRead, ReadFailed, WentBack, Answer}
+use Rattle.ring_world.specs.Course.{Course, stepped, led, closed, IsCut}
+use Rattle.ring_world.specs.Lists.{longer, IsReadFrom}
+use Rattle.ring_world.specs.Flight.{Refusal, StoreFault, Shorter, Behind, Forked, Memory, Sight, sight_steps, Terms, Flight, IsFlight, gather_end, flight_course, Gives}
+
+-- what a call is asked, by which pass
+pub record Call : Type 0 where
+  pub terms : Terms
+  pub need : ℕ
+  -- the list that the pass has seen
+  pub own : List Element
+  -- what a pass that is alone at its node sees before the call; of others it isn't told
+  pub single : Option Sight
+
+-- how many elements the ring must have
+abbrev pub target : Call → ℕ
+target c = max c.need (length c.own)
+
+-- the ring isn't due at the moment, and has as many elements
+abbrev pub is_enough_for : ℕ → ℕ → Sight → Bool
+is_enough_for now n s =
+    is_none (due s.ring now s.want) && nat_le n (length s.ring.list)
+
+abbrev pub is_enough : Call → Sight → Bool
+is_enough c s = is_enough_for c.terms.now (target c) s
+
+-- where a read begins: behind the longer of the own list and the ring's
+abbrev pub base : Call → Sight → List Element
+base c s = longer c.own s.ring.list
+
+-- what the holder of the turn does: its look is enough, or differs from the own list at a place; or
+-- it flies
+pub data Turn : Type 0 where
+  Rests : Sight → Turn
+  Parts : Sight → ℕ → Turn
+  Flies : Sight → Flight → Turn
+
+-- what a call does after its first look: that is enough; somebody else has the turn, and it is used
+-- though it is due; it is too short, and the call reads for itself; the turn is taken; the private
+-- read fails, or finds fewer elements; the look differs from the own list at a place
+pub data Path : Type 0 where
+  AtOnce : Sight → Path
+  Stale : Sight → ℕ → Path
+  Alone : Sight → ℕ → List Element → Path
+  Turned : Sight → Turn → Path
+  AloneFailed : Sight → ℕ → Path
+  AloneShort : Sight → ℕ → ℕ → ℕ → Path
+  Apart : Sight → ℕ → Path
+
+-- a pass that is alone sees what it was shown
+abbrev pub Sees : Call → Sight → Type 0
+Sees c s = IfSome c.single (λ one. s ≡ one)
+
+abbrev pub IsTurn : Call → Turn → Type 0
+IsTurn c (Rests t) = Sees c t × (is_enough c t ≡ true)
+IsTurn c (Parts t at) = Sees c t × IsFirstDifference c.own t.ring.list at
+IsTurn c (Flies t x) = Sees c t × (is_enough c t ≡ false) × IsFlight c.terms (base c t) x
+
+-- a pass that is alone is never told Busy
+abbrev pub IsPath : Call → Path → Type 0
+IsPath c (AtOnce s) = Sees c s × (is_enough c s ≡ true)
+IsPath c (Stale s h) = Sees c s × (c.single ≡ None) × (is_enough c s ≡ false) × (target c ≤ length s.ring.list)
+IsPath c (Alone s h es) =
+    Sees c s × (c.single ≡ None) × (length s.ring.list < target c) × IsReadFrom c.terms.told (base c s) es
+IsPath c (Turned s t) = Sees c s × (is_enough c s ≡ false) × IsTurn c t
+IsPath c (AloneFailed s h) = Sees c s × (c.single ≡ None) × (length s.ring.list < target c)
+IsPath c (AloneShort s h had got) =
+    Sees c s × (c.single ≡ None) × (length s.ring.list < target c) × (had ≡ length (base c s)) × (got < had)
+IsPath c (Apart s at) = Sees c s × IsFirstDifference c.own s.ring.list at
+
+abbrev pub turn_course : Call → Turn → Course
+turn_course c (Rests t) = stepped (sight_steps t)
+turn_course c (Parts t at) = stepped (sight_steps t)
+turn_course c (Flies t x) = led (sight_steps t) (flight_course c.terms t x)
+
+abbrev pub path_course : Call → Path → Course
+path_course c (AtOnce s) = stepped (sight_steps s)
+path_course c (Stale s h) = stepped (sight_steps s ++ Busy h ∷ [])
+path_course c (Alone s h es) = stepped (sight_steps s ++ Busy h ∷ PrivateRead (length es) ∷ [])
+path_course c (Turned s t) = led (sight_steps s ++ Take ∷ []) (closed (turn_course c t) (Give ∷ []))
+path_course c (AloneFailed s h) = stepped (sight_steps s ++ Busy h ∷ ReadFailed ∷ [])
+path_course c (AloneShort s h had got) = stepped (sight_steps s ++ Busy h ∷ WentBack had got ∷ [])
+path_course c (Apart s at) = stepped (sight_steps s)
+
+-- the ring to which a path comes, or its refusal; a private ring has no jitter
+abbrev pub turn_end : Call → Turn → Result RingOf Refusal
+turn_end c (Rests t) = Ok t.ring
+turn_end c (Parts t at) = Err (Forked at c.own t.ring.list)
+turn_end c (Flies t x) = gather_end c.terms x
+
+abbrev pub path_end : Call → Path → Result RingOf Refusal
+path_end c (AtOnce s) = Ok s.ring
+path_end c (Stale s h) = Ok s.ring
+path_end c (Alone s h es) = Ok (ring_of es c.terms.now 0)
+path_end c (Turned s t) = turn_end c t
+path_end c (AloneFailed s h) = Err StoreFault
+path_end c (AloneShort s h had got) = Err (Shorter had got)
+path_end c (Apart s at) = Err (Forked at c.own s.ring.list)
+
+abbrev pub TurnGives : Call → Result RingOf Refusal → Course → Type 0
+TurnGives c = Gives (IsTurn c) (turn_end c) (turn_course c)
+
+-- the course of a lawful path that comes to the ring or the refusal; or, for want of memory, a front
+-- of one, and Give where the turn is held
+pub data PathGives (c : Call) (result : Result RingOf Refusal) (d : Course) : Type 0 where
+  went : (p : Path) → IsPath c p → path_end c p ≡ result → d ≡ path_course c p → PathGives c result d
+  stopped : (p : Path) → IsPath c p → result ≡ Err Memory → IsCut d (path_course c p) → PathGives c result d
+
+-- by a ring that is long enough the call is answered
+abbrev pub answered : ℕ → Result RingOf Refusal → Result RingOf Refusal
+answered need (Ok r) = if nat_le need (length r.list) then Ok r else Err (Behind (length r.list) need)
+answered need (Err why) = Err why
+
+abbrev pub answer_steps : Result RingOf Refusal → List Step
+answer_steps (Ok r) = Answer ∷ []
+answer_steps (Err why) = []
+
+-- the list that the pass has seen after a call: that of the ring that answers, also where it is
+-- shorter than need
+abbrev pub own_after : List Element → Result RingOf Refusal → List Element
+own_after own (Ok r) = r.list
+own_after own (Err why) = own
+
+-- the steps of a call are those of a lawful path, and the answer and the list seen afterwards are
+-- those to which it comes; or, for want of memory, it was cut off
+pub data CallPath (c : Call) (result : Result RingOf Refusal) (own : List Element) (d : Course) : Type 0 where
+  complete : (p : Path) → IsPath c p → answered c.need (path_end c p) ≡ result → own ≡ own_after c.own (path_end c p) → d ≡ closed (path_course c p) (answer_steps (path_end c p)) → CallPath c result own d
+  cut_off : (p : Path) → IsPath c p → result ≡ Err Memory → own ≡ c.own → IsCut d (path_course c p) → CallPath c result own d

@@ -1,0 +1,6 @@
+//! What a call that needs a ring does: its steps, and the lawful paths that they make.
+#![tactic(auto)]
+
+mod step;
+
+pub use step::{MAX_STEPS, Step, StepList};

@@ -1,0 +1,79 @@
+//! What makes a cell.
+ghost use Rattle.std.specs.Prelude.{◌≡◌, ◌<◌, ◌≤◌, ◌∷◌, [], All, length, IfOk};
+ghost use Rattle.swap_cell.specs.Cells.{setter_cell, viewer_cell, last_set, set_before, known};
+
+use crate::board::{Item, STRIDE};
+use crate::handles::{Setter, Viewer};
+use crate::plays::Tell;
+use crate::setting::share_to;
+use atomic_table::Table;
+use dp_base::{Grows, Memory};
+use std::alloc::Global;
+use std::snapshot::Snapshot;
+use std::sync::Arc;
+
+/// A cell with its first value: the end that sets, and 1 to 64 that look.
+pub fn cell<T: Grows + Drop>(
+    alloc: Global,
+    first: T,
+    viewers: u32,
+) -> Result<(Setter<T>, Vec<Viewer<T>>), Memory>
+    requires { (1 ≤ viewers) × (viewers ≤ 64) }
+    ensures setter { IfOk result (λ r. (last_set r.0 ≡ first) × (set_before r.0 ≡ first ∷ [])) }
+    ensures count { IfOk result (λ r. length r.1.items ≡ viewers) }
+    ensures viewers { IfOk result (λ r. All (λ v. (viewer_cell v ≡ setter_cell r.0) × (known v ≡ first ∷ [])) r.1.items) }
+{
+    let count = viewers as usize;
+    let mut setter = setter(
+        alloc,
+        Item {
+            value: first,
+            number: 0,
+        },
+        count,
+    )?;
+    let mut ends = Vec::with_capacity(alloc, count)?;
+    for index in 0..count {
+        let end = viewer(&mut setter, index)?;
+        ends.push(end)?;
+    }
+    Ok((setter, ends))
+}
+
+fn setter<T: Grows + Drop>(alloc: Global, first: Item<T>, count: usize) -> Result<Setter<T>, Memory>
+    requires { (1 ≤ count) × (count ≤ 64) × (first.number ≡ 0) }
+    ensures { IfOk result (λ s. (last_set s ≡ first.value) × (set_before s ≡ first.value ∷ []) × (s.place.table_id.slots ≡ count)) }
+{
+    let mut slots = Vec::with_capacity(alloc, count)?;
+    share_to(&mut slots, &first, count)?;
+    let words = Vec::from_elem(alloc, 0u64, STRIDE * count)?;
+    let room = Vec::with_capacity(alloc, count)?;
+    let about = Snapshot::of(&first.value);
+    let Ok((table, place)) = Table::new(alloc, words.as_slice(), slots, &about) else {
+        return Err(Memory);
+    };
+    Ok(Setter {
+        board: Arc::new(alloc, table)?,
+        place,
+        last: first,
+        room,
+    })
+}
+
+fn viewer<T: Grows + Drop>(setter: &mut Setter<T>, index: usize) -> Result<Viewer<T>, Memory>
+    requires { index < setter.old.place.table_id.slots }
+    ensures setter { (setter_cell setter.new ≡ setter_cell setter.old) × (last_set setter.new ≡ last_set setter.old) × (set_before setter.new ≡ set_before setter.old) }
+    ensures viewer { IfOk result (λ v. (viewer_cell v ≡ setter_cell setter.old) × (known v ≡ set_before setter.old)) }
+{
+    let board = Arc::try_clone(&setter.board)?;
+    let value = setter.last.value.share()?;
+    let number = setter.last.number;
+    let place = setter.board.shared.split_seat::<Tell>(&mut setter.place);
+    Ok(Viewer {
+        board,
+        place,
+        index,
+        mine: Item { value, number },
+        most: number,
+    })
+}

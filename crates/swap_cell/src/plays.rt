@@ -1,0 +1,83 @@
+//! What each kind of step on the table of a cell tells.
+
+use crate::board::{Item, Sight};
+use atomic_table::{Join, Play, Split};
+use dp_base::Grows;
+
+/// A slot is taken, or found taken.
+pub struct Lock;
+
+impl<T> Play<Item<T>, Sight<T>> for Lock {
+    ghost use Rattle.swap_cell.specs.Steps.{locked};
+
+    ghost then = { locked };
+}
+
+/// A slot is given back, with an item that is known.
+pub struct Free;
+
+impl<T> Play<Item<T>, Sight<T>> for Free {
+    ghost use Rattle.swap_cell.specs.Steps.{freed};
+
+    ghost then = { freed };
+}
+
+/// A slot is given back, and what was found there is kept.
+pub struct Swap;
+
+impl<T> Play<Item<T>, Sight<T>> for Swap {
+    ghost use Rattle.swap_cell.specs.Steps.{swapped};
+
+    ghost then = { swapped };
+}
+
+/// A value is set.
+pub struct Append;
+
+impl<T> Play<Item<T>, Sight<T>> for Append {
+    ghost use Rattle.swap_cell.specs.Steps.{appended};
+
+    ghost then = { appended };
+}
+
+/// A value is looked at.
+pub struct Look;
+
+impl<T: Grows> Play<Item<T>, Sight<T>> for Look {
+    ghost use Rattle.swap_cell.specs.Steps.{looked};
+
+    ghost then = { looked T.extends };
+}
+
+/// A seat tells another all that it knows.
+pub struct Tell;
+
+impl<T> Split<Sight<T>> for Tell {
+    ghost use Rattle.swap_cell.specs.Steps.{follower};
+
+    ghost left = { λ v. v };
+
+    ghost right = { follower };
+}
+
+/// A seat learns, and keeps the item that it has.
+pub struct Learn;
+
+impl<T> Join<Sight<T>> for Learn {
+    ghost use Rattle.swap_cell.specs.Steps.{learnt, spent};
+
+    ghost both = { learnt };
+
+    ghost spent = { spent };
+}
+
+/// A seat learns, and takes over the item that the other has.
+pub struct Renew;
+
+impl<T> Join<Sight<T>> for Renew {
+    ghost use Rattle.swap_cell.specs.Steps.{renewed, spent};
+
+    ghost both = { renewed };
+
+    ghost spent = { spent };
+}

@@ -1,0 +1,133 @@
+//! What the setter does.
+ghost use Rattle.std.specs.Prelude.{◌≡◌, ◌+◌, ◌*◌, ◌<◌, ◌≤◌, ◌∷◌, [], All, Some, length, IfOk, IfErr};
+ghost use Rattle.swap_cell.specs.Steps.{IsHanding};
+ghost use Rattle.swap_cell.specs.Cells.{setter_cell, told_cell, last_set, set_before, told_values};
+
+use crate::board::{Board, Item, Place, STRIDE};
+use crate::handles::{SetBack, Setter, Told};
+use crate::plays::{Append, Free, Lock, Tell};
+use crossbeam_utils::Backoff;
+use dp_base::{Grows, Memory};
+use std::sync::Wait;
+
+// As many shares of the item.
+pub(crate) fn share_to<T: Grows + Drop>(
+    room: &mut Vec<Item<T>>,
+    item: &Item<T>,
+    count: usize,
+) -> Result<(), Memory>
+    requires { room.old.items ≡ [] }
+    ensures { IfOk result (λ _. (length room.new.items ≡ count) × All (λ x. x ≡ item.now) room.new.items) }
+{
+    for _ in 0..count {
+        let value = item.value.share()?;
+        room.push(Item {
+            value,
+            number: item.number,
+        })?;
+    }
+    Ok(())
+}
+
+// Waits until the slot is at home, and takes it.
+fn lock<T: Grows + Drop, W: Wait>(board: &Board<T>, place: &mut Place<T>, w: &W, index: usize)
+    requires table { (place.old.table_id ≡ board.now.shared.table_id) × (place.old.table_id.words ≡ 16 * place.old.table_id.slots) × (place.old.table_id.slots ≤ 64) × (index < place.old.table_id.slots) }
+    requires free { place.old.me.1 ≡ [] }
+    ensures { (place.new.table_id ≡ place.old.table_id) × ((y : Item T) × (place.new.me ≡ (record place.old.me.0 { found = Some y; slot = index + 1 }, (index, y) ∷ []))) }
+{
+    let backoff = Backoff::new();
+    for _ in w.forever() {
+        if board
+            .shared
+            .compare_exchange::<Lock>(place, STRIDE * index, 0, 1)
+            == 0
+        {
+            return;
+        }
+        backoff.snooze();
+    }
+    unreachable!()
+}
+
+// Hands the item to the viewer with this slot.
+fn hand<T: Grows + Drop, W: Wait>(
+    board: &Board<T>,
+    place: &mut Place<T>,
+    w: &W,
+    index: usize,
+    item: Item<T>,
+)
+    requires table { (place.old.table_id ≡ board.now.shared.table_id) × (place.old.table_id.words ≡ 16 * place.old.table_id.slots) × (place.old.table_id.slots ≤ 64) × (index < place.old.table_id.slots) }
+    requires free { (place.old.me.0.slot ≡ 0) × (place.old.me.1 ≡ []) }
+    requires has { place.old.me.0.mine ≡ Some item }
+    ensures { IsHanding place.old place.new }
+{
+    lock(board, place, w, index);
+    let _old = board.shared.exchange(place, index, item);
+    board.shared.store::<Free>(place, STRIDE * index, 0);
+}
+
+// Hands the items to the viewers, one to each.
+fn hand_all<T: Grows + Drop, W: Wait>(
+    board: &Board<T>,
+    place: &mut Place<T>,
+    w: &W,
+    room: &mut Vec<Item<T>>,
+    item: &Item<T>,
+)
+    requires table { (place.old.table_id ≡ board.now.shared.table_id) × (place.old.table_id.words ≡ 16 * place.old.table_id.slots) × (place.old.table_id.slots ≤ 64) × (length room.old.items ≤ place.old.table_id.slots) }
+    requires free { (place.old.me.0.slot ≡ 0) × (place.old.me.1 ≡ []) }
+    requires has { place.old.me.0.mine ≡ Some item.now }
+    requires alike { All (λ x. x ≡ item.now) room.old.items }
+    ensures handed { IsHanding place.old place.new }
+    ensures room { room.new.items ≡ [] }
+{
+    while let Some(one) = room.pop() {
+        hand(board, place, w, room.len(), one);
+    }
+}
+
+impl<T: Grows + Drop> Setter<T> {
+    /// Sets a value, and hands it to each viewer. It waits while a viewer has its slot. Where there
+    /// is no memory for the shares of the viewers, the value comes back and nothing has changed.
+    pub fn set<W: Wait>(&mut self, w: &mut W, value: T) -> Result<(), SetBack<T>>
+        requires { T.extends value (last_set self.old) }
+        ensures cell { setter_cell self.new ≡ setter_cell self.old }
+        ensures set { IfOk result (λ _. (last_set self.new ≡ value) × (set_before self.new ≡ value ∷ set_before self.old)) }
+        ensures back { IfErr result (λ e. (e.value ≡ value) × (last_set self.new ≡ last_set self.old) × (set_before self.new ≡ set_before self.old)) }
+    {
+        let Some(number) = self.last.number.checked_add(1) else {
+            return Err(SetBack { value });
+        };
+        let next = Item { value, number };
+        let count = self.board.slot_count();
+        if share_to(&mut self.room, &next, count).is_err() {
+            self.room.clear();
+            return Err(SetBack { value: next.value });
+        }
+        self.board
+            .shared
+            .compare_exchange_with::<Append>(&mut self.place, 0, 2, 2, &next);
+        hand_all(&self.board, &mut self.place, w, &mut self.room, &next);
+        self.last = next;
+        Ok(())
+    }
+
+    /// What was set before this call, for a viewer to learn.
+    pub fn tell(&mut self) -> Told<T>
+        ensures cell { (told_cell result ≡ setter_cell self.old) × (setter_cell self.new ≡ setter_cell self.old) }
+        ensures told { told_values result ≡ set_before self.old }
+        ensures same { (last_set self.new ≡ last_set self.old) × (set_before self.new ≡ set_before self.old) }
+    {
+        let number = self.last.number;
+        let last = match self.last.value.share() {
+            Ok(value) => Some(Item { value, number }),
+            Err(_) => None,
+        };
+        Told {
+            place: self.board.shared.split_seat::<Tell>(&mut self.place),
+            last,
+            number,
+        }
+    }
+}

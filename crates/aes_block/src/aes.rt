@@ -7,12 +7,17 @@ use crate::expansion::expand;
 use crate::rounds::{decipher, encipher};
 use dp_base::BlockCipher;
 use std::marker::Model;
+use thiserror::Error;
 
 /// The length of a key isn't 16, 24 or 32 bytes.
-#[derive(Clone, Copy, Debug, PartialEq, Eq)]
+#[derive(Clone, Copy, Debug, PartialEq, Eq, Error)]
+#[error("a key of AES has 16, 24 or 32 bytes")]
 pub struct BadKeyLength;
 
 /// AES under one key (FIPS 197), which is expanded once.
+///
+/// It reads tables at places that depend on the key and the text, so its time may tell of both to who
+/// shares the machine: it doesn't run in constant time.
 #[derive(Drop)]
 pub struct Aes {
     // The schedule of the key, in front of words that no round takes.

@@ -65,3 +65,10 @@ fn other_lengths_are_refused(rt: HostRuntime) {
         );
     }
 }
+
+#[test]
+fn phrases(rt: HostRuntime) -> Result<(), Fail> {
+    let phrase = format!(in rt.alloc(); "{BadKeyLength}")?;
+    assert_eq!(rt; phrase.as_str(), "a key of AES has 16, 24 or 32 bytes");
+    Ok(())
+}

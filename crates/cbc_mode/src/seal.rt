@@ -9,15 +9,19 @@ use crate::chain::{decrypt_blocks, encrypt_blocks};
 use crate::pad::{padded, padding_len};
 use dp_base::{BlockCipher, Memory};
 use std::alloc::{AllocError, Global};
+use thiserror::Error;
 
 /// Why a body isn't opened.
-#[derive(Clone, Copy, Debug, PartialEq, Eq)]
+#[derive(Clone, Copy, Debug, PartialEq, Eq, Error)]
 pub enum CbcRefused {
     /// The body is empty, or its length is no multiple of 16 bytes.
+    #[error("a body has no whole blocks")]
     BadLength,
     /// The deciphered bytes don't end in padding.
+    #[error("a text has no padding")]
     BadPadding,
     /// No memory was found for the text.
+    #[error("no memory")]
     Memory,
 }
 
@@ -48,6 +52,9 @@ pub fn cbc_seal<B: BlockCipher>(
 
 /// Deciphers a body (SP 800-38A, 6.2) after the vector `iv`, and takes the padding off (RFC 5652,
 /// 6.3).
+///
+/// A peer that is told, or can time, whether the padding was wrong can have texts deciphered by asking
+/// often enough. Open only bodies whose tag was found right, and tell a peer one refusal for all.
 pub fn cbc_open<B: BlockCipher>(
     alloc: Global,
     cipher: &B,

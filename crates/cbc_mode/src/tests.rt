@@ -98,3 +98,16 @@ fn refusals(rt: HostRuntime) {
         assert_eq!(rt; opened.err(), Some(told), "{body:?}");
     }
 }
+
+#[test]
+fn phrases(rt: HostRuntime) -> Result<(), Fail> {
+    let table = [
+        (CbcRefused::BadLength, "a body has no whole blocks"),
+        (CbcRefused::BadPadding, "a text has no padding"),
+        (CbcRefused::Memory, "no memory"),
+    ];
+    for (refused, phrase) in table {
+        assert_eq!(rt; format!(in rt.alloc(); "{refused}")?.as_str(), phrase);
+    }
+    Ok(())
+}

@@ -1,0 +1,247 @@
+-- Lawful paths, joined from their parts.
+use Rattle.std.proofs.Common.{◌≡◌, ℕ, ◌<◌, ◌≤◌, Bool, true, false, ◌&&◌, ◌||◌, List, [], ◌∷◌, ◌++◌, length, refl, sym, ap, ◌∙◌, Option, Some, None, Result, Ok, Err, arith, inl, inr, IfSome, nat_le, if◌then◌else◌}
+use Rattle.std.proofs.lemmas.List.{append-nil, take_all}
+use Rattle.std.proofs.lemmas.Bool.Decides.{nat_tests}
+use Rattle.std.proofs.lemmas.Bool.{le-leb}
+use Rattle.key_elements.specs.declared.element.Element.{Element}
+use Rattle.key_elements.specs.Lists.{Agree, IsFirstDifference}
+use Rattle.dp_node.proofs.Books.{IsFrontOf}
+use Rattle.key_ring.specs.Ring.{RingOf, ring_of, due as due_of}
+use Rattle.ring_world.specs.declared.step.Step.{Step}
+use Rattle.ring_world.specs.declared.step.Step.TheVariants.{Want, Take, Busy, Give, ReadFailed, PrivateRead, Answer}
+use Rattle.ring_world.specs.Course.{Course, stepped, led, closed, IsFront, IsCut, holds}
+use Rattle.ring_world.specs.Lists.{longer}
+use Rattle.ring_world.specs.Flight.{Refusal, StoreFault, Shorter, Behind, Forked, Memory, Sight, sight_steps, Plain, Keyed, Filled, Shrunk, NoRead, ShortRead, NoDraw, NoKeyDraw, NoAppend, ShortAppend, Flown, Broken, whole, cut, FlightGives}
+use Rattle.ring_world.specs.Path.{Call, target, is_enough_for, is_enough, base, Sees, Turn, Rests, Parts, Flies, Path, AtOnce, Stale, Alone, Turned, AloneFailed, AloneShort, Apart, turn_course, path_course, TurnGives, PathGives, went, stopped, answered, answer_steps, own_after, CallPath, complete, cut_off}
+use Rattle.dp_node.specs.Gather.{Reads}
+use Rattle.dp_node.specs.Calls.{is_private, private_step}
+use Rattle.dp_node.proofs.Books.{IsFrontOf-refl}
+use Rattle.dp_node.proofs.Fronts.{front_unnoted, front_whole, front_led, front_closed, all_leave, all_leave-front, held_behind, free_behind}
+
+-- the holder of the turn gives it back only at the end
+turn_leaves : (c : Call) (x : Turn) → all_leave (turn_course c x).steps ≡ true
+turn_leaves c (Rests t) = refl
+turn_leaves c (Parts t at) = refl
+turn_leaves c (Flies t (Flown w (Plain es))) = refl
+turn_leaves c (Flies t (Flown w (Keyed es k fs))) = refl
+turn_leaves c (Flies t (Flown w (Filled es k))) = refl
+turn_leaves c (Flies t (Flown w (Shrunk es k got))) = refl
+turn_leaves c (Flies t (Broken NoRead)) = refl
+turn_leaves c (Flies t (Broken (ShortRead had got))) = refl
+turn_leaves c (Flies t (Broken (NoDraw es))) = refl
+turn_leaves c (Flies t (Broken (NoKeyDraw es w))) = refl
+turn_leaves c (Flies t (Broken (NoAppend es w k))) = refl
+turn_leaves c (Flies t (Broken (ShortAppend es w k got))) = refl
+
+-- behind a path the turn is free
+path_free : (c : Call) (p : Path) → holds false (path_course c p).steps ≡ false
+path_free c (AtOnce s) = refl
+path_free c (Stale s h) = refl
+path_free c (Alone s h es) = refl
+path_free c (Turned s t) = free_behind true (turn_course c t).steps
+path_free c (AloneFailed s h) = refl
+path_free c (AloneShort s h had got) = refl
+path_free c (Apart s at) = refl
+
+path_noted : (c : Call) (p : Path) → (path_course c p).unnoted ≡ 0
+path_noted c (AtOnce s) = refl
+path_noted c (Stale s h) = refl
+path_noted c (Alone s h es) = refl
+path_noted c (Turned s (Rests t)) = refl
+path_noted c (Turned s (Parts t at)) = refl
+path_noted c (Turned s (Flies t (Flown w (Plain es)))) = refl
+path_noted c (Turned s (Flies t (Flown w (Keyed es k fs)))) = refl
+path_noted c (Turned s (Flies t (Flown w (Filled es k)))) = refl
+path_noted c (Turned s (Flies t (Flown w (Shrunk es k got)))) = refl
+path_noted c (Turned s (Flies t (Broken NoRead))) = refl
+path_noted c (Turned s (Flies t (Broken (ShortRead had got)))) = refl
+path_noted c (Turned s (Flies t (Broken (NoDraw es)))) = refl
+path_noted c (Turned s (Flies t (Broken (NoKeyDraw es w)))) = refl
+path_noted c (Turned s (Flies t (Broken (NoAppend es w k)))) = refl
+path_noted c (Turned s (Flies t (Broken (ShortAppend es w k got)))) = refl
+path_noted c (AloneFailed s h) = refl
+path_noted c (AloneShort s h had got) = refl
+path_noted c (Apart s at) = refl
+
+-- a course behind which the turn is free, cut off there
+free_cut : (d w : Course) → holds false d.steps ≡ false → IsFront d w → IsCut d w
+free_cut d w h f = record { front = d; is = f; given = sym (rw h refl) }
+
+-- a look that is due
+abbrev due : ℕ → Sight
+due n = record { want = n; ring = record { list = []; made_at = 0; until = 0; excused = 0 } }
+
+not_enough : (c : Call) (n : ℕ) → is_enough c (due n) ≡ false
+unfolding due_of
+not_enough c n = rw (le-leb 0 c.terms.now (omega arith)) refl
+
+-- what a pass may see whose want number was asked
+some_sight : (n : ℕ) (o : Option Sight) → IfSome o (λ one. n ≡ one.want) → (s : Sight) × IfSome o (λ one. s ≡ one) × (n ≡ s.want)
+some_sight n None h = (due n, tt, refl)
+some_sight n (Some one) h = (one, refl, h)
+
+want_front : (s : Sight) (n : ℕ) (w : Course) (rest : List Step) → n ≡ s.want → w.steps ≡ Want s.want ∷ rest → w.drawn ≡ [] → IsFront (stepped (Want n ∷ [])) w
+want_front s n w rest e p q = record {
+  steps = (rest, p ∙ ap (λ m. Want m ∷ rest) (sym e));
+  drawn = ([], q);
+  published = inl refl;
+  unnoted = omega arith;
+}
+
+module _ (c : Call) where
+  turn_want : (n : ℕ) (s : Sight) (b : Bool) → n ≡ s.want → Sees c s → is_enough c s ≡ b → TurnGives c (Err Memory) (stepped (Want n ∷ []))
+  turn_want n s true e sees h = cut (Rests s) (sees, h) refl (want_front s n (turn_course c (Rests s)) _ e refl refl)
+  turn_want n s false e sees h = cut (Flies s (Broken NoRead)) (sees, h, tt) refl (want_front s n (turn_course c (Flies s (Broken NoRead))) _ e refl refl)
+
+  -- no memory was found for the look
+  pub turn_none : (n : ℕ) → IfSome c.single (λ one. n ≡ one.want) → TurnGives c (Err Memory) (stepped (Want n ∷ []))
+  turn_none n h = let s = some_sight n c.single h in turn_want n s.0 (is_enough c s.0) s.2 s.1 refl
+
+  path_want : (n : ℕ) (s : Sight) (b : Bool) → n ≡ s.want → Sees c s → is_enough c s ≡ b → PathGives c (Err Memory) (stepped (Want n ∷ []))
+  path_want n s true e sees h = stopped (AtOnce s) (sees, h) refl (free_cut (stepped (Want n ∷ [])) (path_course c (AtOnce s)) refl (want_front s n (path_course c (AtOnce s)) _ e refl refl))
+  path_want n s false e sees h =
+      let p = Turned s (Flies s (Broken NoRead)) in
+      stopped p (sees, h, (sees, h, tt)) refl (free_cut (stepped (Want n ∷ [])) (path_course c p) refl (want_front s n (path_course c p) _ e refl refl))
+
+  pub path_none : (n : ℕ) → IfSome c.single (λ one. n ≡ one.want) → PathGives c (Err Memory) (stepped (Want n ∷ []))
+  path_none n h = let s = some_sight n c.single h in path_want n s.0 (is_enough c s.0) s.2 s.1 refl
+
+module _ (c : Call) (t : Sight) (sees : Sees c t) where
+  pub turn_flies : (r : Result RingOf Refusal) → is_enough c t ≡ false → (d : Course) → FlightGives c.terms (base c t) t r d → TurnGives c r (led (sight_steps t) d)
+  turn_flies r n d (whole x is e q) = whole (Flies t x) (sees, n, is) e (ap (led (sight_steps t)) q)
+  turn_flies r n d (cut x is e f) = cut (Flies t x) (sees, n, is) e (front_led (sight_steps t) d _ f)
+
+  pub turn_rests : is_enough c t ≡ true → TurnGives c (Ok t.ring) (stepped (sight_steps t))
+  turn_rests e = whole (Rests t) (sees, e) refl refl
+
+  pub turn_apart : (at : ℕ) (left right : List Element) → IsFirstDifference c.own t.ring.list at → left ≡ c.own → right ≡ t.ring.list → TurnGives c (Err (Forked at left right)) (stepped (sight_steps t))
+  turn_apart at left right f l r = rw (l, r) (whole (Parts t at) (sees, f) refl refl)
+
+  pub turn_apart_lost : (at : ℕ) → IsFirstDifference c.own t.ring.list at → TurnGives c (Err Memory) (stepped (sight_steps t))
+  turn_apart_lost at f = cut (Parts t at) (sees, f) refl (front_whole (stepped (sight_steps t)) (omega arith))
+
+  pub path_apart : (at : ℕ) (left right : List Element) → IsFirstDifference c.own t.ring.list at → left ≡ c.own → right ≡ t.ring.list → PathGives c (Err (Forked at left right)) (stepped (sight_steps t))
+  path_apart at left right f l r = rw (l, r) (went (Apart t at) (sees, f) refl refl)
+
+  pub path_apart_lost : (at : ℕ) → IsFirstDifference c.own t.ring.list at → PathGives c (Err Memory) (stepped (sight_steps t))
+  path_apart_lost at f = stopped (Apart t at) (sees, f) refl (free_cut (stepped (sight_steps t)) _ refl (front_whole (stepped (sight_steps t)) (omega arith)))
+
+  pub path_at_once : is_enough c t ≡ true → PathGives c (Ok t.ring) (stepped (sight_steps t))
+  path_at_once e = went (AtOnce t) (sees, e) refl refl
+
+module _ (c : Call) (s : Sight) (sees : Sees c s) (n : is_enough c s ≡ false) where
+  pub path_turned : (r : Result RingOf Refusal) (d : Course) → TurnGives c r d → PathGives c r (led (sight_steps s ++ Take ∷ []) (closed d (Give ∷ [])))
+  path_turned r d (whole x is e q) = went (Turned s x) (sees, n, is) e (ap (λ (y : Course). led (sight_steps s ++ Take ∷ []) (closed y (Give ∷ []))) q)
+  path_turned r d (cut x is e f) =
+      let held : holds true d.steps ≡ true = held_behind d.steps (all_leave-front d.steps f.steps.0 (sym (ap all_leave f.steps.1) ∙ turn_leaves c x)) in
+      stopped (Turned s x) (sees, n, is) e (record {
+        front = led (sight_steps s ++ Take ∷ []) d;
+        is = front_led (sight_steps s ++ Take ∷ []) d (closed (turn_course c x) (Give ∷ [])) (front_closed (Give ∷ []) d (turn_course c x) f);
+        given = sym (rw held refl);
+      })
+
+  module _ (busy : c.single ≡ None) (h : ℕ) where
+    pub path_stale : target c ≤ length s.ring.list → PathGives c (Ok s.ring) (stepped (sight_steps s ++ Busy h ∷ []))
+    path_stale l = went (Stale s h) (sees, busy, n, l) refl refl
+
+    pub path_alone : (es : List Element) → length s.ring.list < target c → (d : Course) → Reads true c.terms.told (base c s) (Ok es) d → PathGives c (Ok (ring_of es c.terms.now 0)) (led (sight_steps s ++ Busy h ∷ []) d)
+    path_alone es l d p = went (Alone s h es) (sees, busy, l, p.0) refl (ap (led (sight_steps s ++ Busy h ∷ [])) p.1)
+
+    -- no memory was found for the ring
+    pub path_alone_lost : (es : List Element) → length s.ring.list < target c → (d : Course) → Reads true c.terms.told (base c s) (Ok es) d → PathGives c (Err Memory) (led (sight_steps s ++ Busy h ∷ []) d)
+    path_alone_lost es l d p =
+        let w = stepped (sight_steps s ++ Busy h ∷ PrivateRead (length es) ∷ []) in
+        rw p.1 (stopped (Alone s h es) (sees, busy, l, p.0) refl (free_cut w w refl (front_whole w (omega arith))))
+
+    pub path_alone_refused : (why : Refusal) → length s.ring.list < target c → (d : Course) → Reads true c.terms.told (base c s) (Err why) d → PathGives c (Err why) (led (sight_steps s ++ Busy h ∷ []) d)
+    path_alone_refused StoreFault l d p = went (AloneFailed s h) (sees, busy, l) refl (ap (led (sight_steps s ++ Busy h ∷ [])) p)
+    path_alone_refused (Shorter had got) l d p = went (AloneShort s h had got) (sees, busy, l, p.0, p.1) refl (ap (led (sight_steps s ++ Busy h ∷ [])) p.2)
+    path_alone_refused Memory l d (inl p) =
+        let w = record (stepped (sight_steps s ++ Busy h ∷ [])) { unnoted = 1 } in
+        rw p (stopped (AloneFailed s h) (sees, busy, l) refl (free_cut w (path_course c (AloneFailed s h)) refl (front_unnoted w (sight_steps s ++ Busy h ∷ []) (ReadFailed ∷ []) [] None 0 refl)))
+    path_alone_refused Memory l d (inr p) = path_alone_lost p.0 l d (p.1, p.2)
+    path_alone_refused _ l d p = elim p [ ]
+
+module _ (c : Call) where
+  pub call_answered : (r : RingOf) (d : Course) → PathGives c (Ok r) d → CallPath c (answered c.need (Ok r)) r.list (closed d (Answer ∷ []))
+  call_answered r d (went p is e q) =
+      complete p is (ap (answered c.need) e) (sym (ap (own_after c.own) e)) (ap (λ (y : Course). closed y (Answer ∷ [])) q ∙ ap (λ (z : Result RingOf Refusal). closed (path_course c p) (answer_steps z)) (sym e))
+  call_answered r d (stopped p is e g) = cc
+
+  pub call_refused : (why : Refusal) (d : Course) → PathGives c (Err why) d → CallPath c (Err why) c.own d
+  call_refused why d (went p is e q) =
+      complete p is (ap (answered c.need) e) (sym (ap (own_after c.own) e))
+      (q ∙ ap (λ (z : List Step). record (path_course c p) { steps = z }) (sym (append-nil (path_course c p).steps)) ∙ ap (λ (z : Result RingOf Refusal). closed (path_course c p) (answer_steps z)) (sym e))
+  call_refused why d (stopped p is e g) = cut_off p is e refl g
+
+  pub call_lost : (r : RingOf) (d : Course) → PathGives c (Ok r) d → CallPath c (Err Memory) c.own d
+  call_lost r d (went p is e q) =
+      rw q (cut_off p is refl refl (free_cut (path_course c p) (path_course c p) (path_free c p) (front_whole (path_course c p) (omega (arith, path_noted c p)))))
+  call_lost r d (stopped p is e g) = cc
+
+-- lists that agree: the longer extends the shorter
+pub IsFrontOf-in_line : (a b : List Element) → Agree a b → length a ≤ length b → IsFrontOf a b
+IsFrontOf-in_line a b h l = sym h ∙ take_all (length b) a l
+
+le_true : (m n : ℕ) → nat_le m n ≡ true → m ≤ n
+le_true m n h = grind (arith, nat_tests)
+
+le_false : (m n : ℕ) → nat_le m n ≡ false → n < m
+le_false m n h = grind (arith, nat_tests)
+
+and_right : (a b : Bool) → (a && b) ≡ true → b ≡ true
+and_right true b h = h
+and_right false b h = cc
+
+Agree-sym : (a b : List Element) → Agree a b → Agree b a
+Agree-sym a b h = sym h
+
+longer_own : (own list : List Element) (b : Bool) → nat_le (length list) (length own) ≡ b → Agree own list → IsFrontOf own (if b then own else list)
+longer_own own list true e h = IsFrontOf-refl own
+longer_own own list false e h = let l = le_false _ _ e in IsFrontOf-in_line own list h (omega (arith, l))
+
+longer_list : (own list : List Element) (b : Bool) → nat_le (length list) (length own) ≡ b → Agree own list → IsFrontOf list (if b then own else list)
+longer_list own list true e h = IsFrontOf-in_line list own (Agree-sym own list h) (le_true _ _ e)
+longer_list own list false e h = IsFrontOf-refl list
+
+-- the longer of the two extends both
+pub longer_extends_own : (own list : List Element) → Agree own list → IsFrontOf own (longer own list)
+longer_extends_own own list h = longer_own own list _ refl h
+
+pub longer_extends_list : (own list : List Element) → Agree own list → IsFrontOf list (longer own list)
+longer_extends_list own list h = longer_list own list _ refl h
+
+-- an enough ring has the elements
+pub enough-target : (now n : ℕ) (s : Sight) → is_enough_for now n s ≡ true → n ≤ length s.ring.list
+enough-target now n s h = le_true n (length s.ring.list) (and_right _ _ h)
+
+lt-leb : (m n : ℕ) → n < m → nat_le m n ≡ false
+lt-leb m n h = grind (arith, nat_tests)
+
+pub answered-enough : (need : ℕ) (r : RingOf) → need ≤ length r.list → answered need (Ok r) ≡ Ok r
+answered-enough need r h = rw (le-leb need (length r.list) h) refl
+
+pub answered-behind : (need : ℕ) (r : RingOf) → length r.list < need → answered need (Ok r) ≡ Err (Behind (length r.list) need)
+answered-behind need r h = rw (lt-leb need (length r.list) h) refl
+
+or_assoc : (a b c : Bool) → (a || (b || c)) ≡ ((a || b) || c)
+or_assoc true b c = refl
+or_assoc false b c = refl
+
+private-append : (s t : List Step) → is_private (s ++ t) ≡ (is_private s || is_private t)
+private-append [] t = refl
+private-append (x ∷ s) t = rw (private-append s t) (or_assoc (private_step x) (is_private s) (is_private t))
+
+or_front : (a b : Bool) → (a || b) ≡ false → a ≡ false
+or_front true b h = cc
+or_front false b h = refl
+
+or_true : (a : Bool) → (a || true) ≡ true
+or_true true = refl
+or_true false = refl
+
+pub private_front : (s t u : List Step) → u ≡ s ++ t → is_private u ≡ false → is_private s ≡ false
+private_front s t u e h = or_front (is_private s) (is_private t) (sym (private-append s t) ∙ sym (ap is_private e) ∙ h)
+
+pub private_read : (s u : List Step) (n : ℕ) → u ≡ s ++ PrivateRead n ∷ [] → is_private u ≡ true
+private_read s u n e = ap is_private e ∙ private-append s (PrivateRead n ∷ []) ∙ or_true (is_private s)

@@ -1,0 +1,55 @@
+use Rattle.std.proofs.Common.{refl, [], ◌∷◌, Ok, Err, None}
+use Rattle.std.proofs.lemmas.Result.{err_from_is_err_and}
+use Rattle.ring_world.specs.declared.step.Step.TheVariants.{ReadFailed}
+use Rattle.ring_world.specs.Course.{idle}
+use Rattle.ring_world.specs.Flight.{Memory, NoRead, Broken, cut}
+use Rattle.dp_node.specs.Gather.{refusal}
+use Rattle.dp_node.specs.Opening.{first_facts}
+use Rattle.dp_node.proofs.Books.{exactly, nothing}
+use Rattle.dp_node.proofs.Fronts.{front}
+use Rattle.dp_node.proofs.Openings.{opens_refused}
+use Rattle.dp_node.proofs.solo.Solo.open.Goals as goal
+
+pub returns-in_err-steps : goal.returns-in_err-steps
+returns-in_err-steps g c =
+    let p = err_from_is_err_and c.from_residual.result c.from_residual.ensures.1 in
+    record {
+      opened = (
+        Err Memory,
+        [],
+        rw (p.1, p.2) tt,
+        λ host. exactly idle (nothing [] host _ _) (cut (Broken NoRead) tt refl (front idle [] (ReadFailed ∷ []) [] None 0 refl)),
+      );
+    }
+
+pub returns-in_err-over-in-Ok : goal.returns-in_err-over-in-Ok
+returns-in_err-over-in-Ok g c =
+    let p = err_from_is_err_and c.from_residual-in_err-over-in-Ok.result c.from_residual-in_err-over-in-Ok.ensures.1 in
+    record {
+      opened = (
+        Ok c.in-Ok.ring,
+        c.gather.new.steps,
+        rw (p.1, p.2) tt,
+        λ host. rw (c.in_ok-steps.ensures, c.empty-base.ensures) at (c.in-Ok.ensures.did host),
+      );
+    }
+
+pub returns-in-Ok : goal.returns-in-Ok
+returns-in-Ok g c = record {
+  opened = (
+    Ok c.in-Ok.ring,
+    c.gather.new.steps,
+    (c.in-Ok.ring, refl, c.in_ok-over-in-Ok.ensures),
+    λ host. rw (c.in_ok-steps.ensures, c.empty-base.ensures) at (c.in-Ok.ensures.did host),
+  );
+}
+
+pub returns : goal.returns
+returns g c = record {
+  opened = (
+    Err (refusal c.in-Err.why),
+    c.gather.new.steps,
+    rw c.refused_as.ensures (opens_refused (first_facts c.args.now c.args.options) c.in-Err.why),
+    λ host. rw (c.in_ok-steps.ensures, c.empty-base.ensures) at (c.in-Err.ensures.did host),
+  );
+}

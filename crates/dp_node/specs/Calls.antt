@@ -1,0 +1,31 @@
+-- What a call is asked, in the terms of the paths.
+use Rattle.std.specs.Prelude.{ℕ, Bool, false, true, ◌||◌, List, [], ◌∷◌, Option}
+use Rattle.default_key.specs.declared.options.Options.{Options}
+use Rattle.key_elements.specs.declared.element.Element.{Element}
+use Rattle.ring_world.specs.declared.step.Step.{Step}
+use Rattle.ring_world.specs.declared.step.Step.TheVariants.{PrivateRead}
+use Rattle.ring_world.specs.Flight.{Terms}
+use Rattle.ring_world.specs.Path.{Call}
+use Rattle.dp_node.specs.declared.call.At.{At}
+use Rattle.dp_node.specs.HostState.{HostState}
+
+abbrev pub terms : ℕ → Options → Bool → Option (List Element) → Terms
+terms now options opening told = record { now = now; options = options; opening = opening; told = told }
+
+-- the call of a pass
+abbrev pub call : At → HostState → Option (List Element) → Call
+call at s told = record {
+  terms = terms at.now s.facts.options false told;
+  need = at.need;
+  own = s.own;
+  single = s.single;
+}
+
+-- whether the ring was read privately
+abbrev pub private_step : Step → Bool
+private_step (PrivateRead f) = true
+private_step _ = false
+
+abbrev pub is_private : List Step → Bool
+is_private [] = false
+is_private (x ∷ xs) = private_step x || is_private xs

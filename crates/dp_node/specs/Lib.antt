@@ -1,0 +1,7 @@
+pub mod HostState
+pub mod Sight
+pub mod Books
+pub mod Gather
+pub mod Calls
+pub mod Places
+pub mod Opening

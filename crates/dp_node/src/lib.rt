@@ -1,0 +1,20 @@
+//! A pass of a node: it comes to a ring by a lawful path, over any host and repository, and appends
+//! elements to what it has seen.
+#![tactic(auto)]
+
+mod acts;
+mod call;
+mod error;
+mod gather;
+mod host;
+mod open;
+mod place;
+mod sight;
+mod solo;
+
+pub use call::{At, ring_for};
+pub use error::{Fork, NodeError, ToldRefused};
+pub use host::{Busy, Host, HostView, NodeFacts};
+pub use open::OpenRefused;
+pub use place::{Placed, revoke, revoke_before, roll};
+pub use solo::Solo;

@@ -1,0 +1,102 @@
+//! The opening of a node of one thread.
+
+ghost use Rattle.std.specs.Prelude.{◌≡◌, ◌≤◌, List, [], Result, true};
+ghost use Rattle.dp_base.specs.declared.ticks.TheConstants.{LAST};
+ghost use Rattle.key_ring.specs.Ring.{RingOf};
+ghost use Rattle.ring_world.specs.declared.step.Step.{Step};
+ghost use Rattle.ring_world.specs.Flight.{Gathers, Refusal};
+ghost use Rattle.dp_node.specs.HostState.{HostState};
+ghost use Rattle.dp_node.specs.Books.{books, Does};
+ghost use Rattle.dp_node.specs.Calls.{terms};
+ghost use Rattle.dp_node.specs.Opening.{Opens, first_facts, refused_as};
+
+use crate::error::NodeError;
+use crate::gather::gather;
+use crate::host::NodeFacts;
+use crate::solo::Solo;
+use default_key::Options;
+use dp_base::{Draw, Memory};
+use key_elements::ElementList;
+use repo_keeper::Repo;
+use ring_world::StepList;
+use std::alloc::Global;
+use thiserror::Error;
+
+/// Why a node wasn't opened.
+#[derive(Clone, Copy, Debug, PartialEq, Eq, Error)]
+pub enum OpenRefused {
+    /// The repository failed, and counted it.
+    #[error("the repository failed")]
+    StoreFault,
+    /// The draw failed, and counted it.
+    #[error("no random bytes were drawn")]
+    DrawFault,
+    #[error("no memory")]
+    Memory,
+}
+
+impl From<Memory> for OpenRefused {
+    ghost use Rattle.std.specs.Prelude.{◌≡◌};
+    ghost use Rattle.dp_node.specs.declared.open.OpenRefused.TheVariants.{Memory};
+
+    ghost from_gives = { λ _ refused. refused ≡ Memory };
+
+    fn from(_: Memory) -> OpenRefused {
+        OpenRefused::Memory
+    }
+}
+
+// The refusal of an opening.
+fn refused_as(why: &NodeError) -> OpenRefused
+    ensures { result ≡ refused_as why.now }
+{
+    match why {
+        NodeError::StoreFault => OpenRefused::StoreFault,
+        NodeError::DrawFault => OpenRefused::DrawFault,
+        _ => OpenRefused::Memory,
+    }
+}
+
+impl Solo {
+    /// Opens a node at the moment, in ticks, over all that the repository holds. Where no key
+    /// follows the preferred one soon enough and keys are made automatically, one is made; where the
+    /// repository has no place for it, the ring is made without it.
+    pub fn open<R: Repo<()>, D: Draw>(
+        alloc: Global,
+        repo: &mut R,
+        draw: &mut D,
+        now: u64,
+        options: Options,
+    ) -> Result<Solo, OpenRefused>
+        requires moment { now ≤ LAST }
+        ensures opened { (r : Result RingOf Refusal) × (steps : List Step) × Opens (first_facts now options) result r
+            × ((host : HostState) → Does (Gathers (terms now options true (R.store repo.new).list) [] r)
+            (books [] host (R.store repo.old) (D.draws draw.old))
+            (books steps host (R.store repo.new) (D.draws draw.new))) }
+    {
+        let mut steps = StepList::with_room(alloc)?;
+        let base = ElementList::empty();
+        match gather(
+            &mut (),
+            alloc,
+            repo,
+            draw,
+            &base,
+            now,
+            &options,
+            true,
+            &mut steps,
+        ) {
+            Ok(ring) => {
+                let facts = NodeFacts {
+                    node: 0,
+                    pass: 0,
+                    opened_at: now,
+                    options,
+                };
+                Ok(Solo::over(facts, ring)?)
+            }
+            Err(why) => Err(refused_as(&why)),
+        }
+    }
+}

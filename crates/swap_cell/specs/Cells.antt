@@ -1,10 +1,11 @@
 -- What clauses read of the ends of a cell.
-use Rattle.std.specs.Prelude.{List, map}
+use Rattle.std.specs.Prelude.{◌≡◌, List, [], ◌∷◌, ◌++◌, map}
 use Rattle.atomic_table.specs.Seated.{TableId}
 use Rattle.swap_cell.specs.declared.board.Item.{Item}
 use Rattle.swap_cell.specs.declared.handles.Setter.{Setter}
 use Rattle.swap_cell.specs.declared.handles.Viewer.{Viewer}
 use Rattle.swap_cell.specs.declared.handles.Told.{Told}
+use Rattle.swap_cell.specs.Rule.{Each}
 
 module _ {T : Type 0} where
   abbrev pub value_of : Item T → T
@@ -35,3 +36,23 @@ module _ {T : Type 0} where
   -- all that a telling tells
   abbrev pub told_values : Told T → List T
   told_values t = map value_of t.place.me.0.known
+
+  -- the value was set behind all that was
+  abbrev pub HasSet : Setter T → Setter T → T → Type 0
+  HasSet s t value = (last_set t ≡ value) × (set_before t ≡ value ∷ set_before s)
+
+  -- nothing was set
+  abbrev pub StaysSet : Setter T → Setter T → Type 0
+  StaysSet s t = (last_set t ≡ last_set s) × (set_before t ≡ set_before s)
+
+  -- the viewer is of the setter's cell, and knows all that was set
+  abbrev pub Follows : Setter T → Viewer T → Type 0
+  Follows s v = (viewer_cell v ≡ setter_cell s) × (known v ≡ set_before s)
+
+  -- the value extends all that the viewer knew, and is known now
+  abbrev pub HasLooked : (T → T → Type 0) → Viewer T → Viewer T → T → Type 0
+  HasLooked extends v w x = Each (extends x) (known v) × (known w ≡ x ∷ known v)
+
+  -- the viewer knows what was told beside what it knew
+  abbrev pub HasLearnt : Told T → Viewer T → Viewer T → Type 0
+  HasLearnt t v w = known w ≡ told_values t ++ known v

@@ -1,8 +1,9 @@
 -- What each kind of step on the table of a cell tells its seat. A step is made by a seat m, which is
 -- m' afterwards; n is the number that it found.
-use Rattle.std.specs.Prelude.{◌≡◌, ◌≢◌, ℕ, ◌+◌, ◌*◌, max, false, [], ◌∷◌, ◌++◌, Some, None}
+use Rattle.std.specs.Prelude.{◌≡◌, ◌≢◌, ℕ, ◌+◌, ◌*◌, ◌≤◌, max, false, [], ◌∷◌, ◌++◌, Some, None}
 use mathlib.Core.Option.{some}
 use Rattle.atomic_table.specs.Table.{Me, Step, rest}
+use Rattle.atomic_table.specs.Seated.{TableId}
 use Rattle.atomic_table.specs.declared.shared.Seat.{Seat}
 use Rattle.swap_cell.specs.declared.board.Item.{Item}
 use Rattle.swap_cell.specs.declared.board.Sight.{Sight}
@@ -56,3 +57,19 @@ module _ {T : Type 0} where
   IsHanding p q =
       (q.table_id ≡ p.table_id) × (q.me.0.slot ≡ 0) × (q.me.1 ≡ []) × (q.me.0.mine ≡ p.me.0.mine) × (q.me.0.most ≡ p.me.0.most)
       × (q.me.0.known ≡ p.me.0.known) × (q.me.0.sets ≡ p.me.0.sets) × (q.me.0.chain ≡ p.me.0.chain)
+
+  -- the seat is at a cell's table, which has 16 words for each slot and at most 64 slots
+  abbrev pub IsAt : TableId → Seat (Item T) (Sight T) → Type 0
+  IsAt table p = (p.table_id ≡ table) × (p.table_id.words ≡ 16 * p.table_id.slots) × (p.table_id.slots ≤ 64)
+
+  -- it has no slot
+  abbrev pub IsFree : Seat (Item T) (Sight T) → Type 0
+  IsFree p = (p.me.0.slot ≡ 0) × (p.me.1 ≡ [])
+
+  -- it has taken the slot r
+  abbrev pub HasTaken : ℕ → Seat (Item T) (Sight T) → Seat (Item T) (Sight T) → Type 0
+  HasTaken r p q = (q.table_id ≡ p.table_id) × ((y : Item T) × (q.me ≡ (record p.me.0 { found = Some y; slot = r + 1 }, (r, y) ∷ [])))
+
+  -- it knows what it knew
+  abbrev pub StaysKnown : Seat (Item T) (Sight T) → Seat (Item T) (Sight T) → Type 0
+  StaysKnown p q = (q.me.0.known ≡ p.me.0.known) × (q.me.0.most ≡ p.me.0.most)

@@ -1,6 +1,6 @@
 //! What makes a cell.
 ghost use Rattle.std.specs.Prelude.{◌≡◌, ◌<◌, ◌≤◌, ◌∷◌, [], All, length, IfOk};
-ghost use Rattle.swap_cell.specs.Cells.{setter_cell, viewer_cell, last_set, set_before, known};
+ghost use Rattle.swap_cell.specs.Cells.{Follows, StaysSet, setter_cell, last_set, set_before};
 
 use crate::board::{Item, STRIDE};
 use crate::handles::{Setter, Viewer};
@@ -19,9 +19,10 @@ pub fn cell<T: Grows + Drop>(
     viewers: u32,
 ) -> Result<(Setter<T>, Vec<Viewer<T>>), Memory>
     requires { (1 ≤ viewers) × (viewers ≤ 64) }
-    ensures setter { IfOk result (λ r. (last_set r.0 ≡ first) × (set_before r.0 ≡ first ∷ [])) }
+    ensures last { IfOk result (λ r. last_set r.0 ≡ first) }
+    ensures set { IfOk result (λ r. set_before r.0 ≡ first ∷ []) }
     ensures count { IfOk result (λ r. length r.1.items ≡ viewers) }
-    ensures viewers { IfOk result (λ r. All (λ v. (viewer_cell v ≡ setter_cell r.0) × (known v ≡ first ∷ [])) r.1.items) }
+    ensures viewers { IfOk result (λ r. All (Follows r.0) r.1.items) }
 {
     let count = viewers as usize;
     let mut setter = setter(
@@ -42,7 +43,9 @@ pub fn cell<T: Grows + Drop>(
 
 fn setter<T: Grows + Drop>(alloc: Global, first: Item<T>, count: usize) -> Result<Setter<T>, Memory>
     requires { (1 ≤ count) × (count ≤ 64) × (first.number ≡ 0) }
-    ensures { IfOk result (λ s. (last_set s ≡ first.value) × (set_before s ≡ first.value ∷ []) × (s.place.table_id.slots ≡ count)) }
+    ensures last { IfOk result (λ s. last_set s ≡ first.value) }
+    ensures set { IfOk result (λ s. set_before s ≡ first.value ∷ []) }
+    ensures slots { IfOk result (λ s. s.place.table_id.slots ≡ count) }
 {
     let mut slots = Vec::with_capacity(alloc, count)?;
     share_to(&mut slots, &first, count)?;
@@ -62,8 +65,9 @@ fn setter<T: Grows + Drop>(alloc: Global, first: Item<T>, count: usize) -> Resul
 
 fn viewer<T: Grows + Drop>(setter: &mut Setter<T>, index: usize) -> Result<Viewer<T>, Memory>
     requires { index < setter.old.place.table_id.slots }
-    ensures setter { (setter_cell setter.new ≡ setter_cell setter.old) × (last_set setter.new ≡ last_set setter.old) × (set_before setter.new ≡ set_before setter.old) }
-    ensures viewer { IfOk result (λ v. (viewer_cell v ≡ setter_cell setter.old) × (known v ≡ set_before setter.old)) }
+    ensures cell { setter_cell setter.new ≡ setter_cell setter.old }
+    ensures same { StaysSet setter.old setter.new }
+    ensures viewer { IfOk result (Follows setter.old) }
 {
     let board = Arc::try_clone(&setter.board)?;
     let value = setter.last.value.share()?;

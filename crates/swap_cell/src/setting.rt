@@ -1,7 +1,7 @@
 //! What the setter does.
-ghost use Rattle.std.specs.Prelude.{◌≡◌, ◌+◌, ◌*◌, ◌<◌, ◌≤◌, ◌∷◌, [], All, Some, length, IfOk, IfErr};
-ghost use Rattle.swap_cell.specs.Steps.{IsHanding};
-ghost use Rattle.swap_cell.specs.Cells.{setter_cell, told_cell, last_set, set_before, told_values};
+ghost use Rattle.std.specs.Prelude.{◌≡◌, ◌<◌, ◌≤◌, [], All, Some, length, IfOk, IfErr};
+ghost use Rattle.swap_cell.specs.Steps.{IsAt, IsFree, HasTaken, IsHanding};
+ghost use Rattle.swap_cell.specs.Cells.{HasSet, StaysSet, setter_cell, told_cell, last_set, set_before, told_values};
 
 use crate::board::{Board, Item, Place, STRIDE};
 use crate::handles::{SetBack, Setter, Told};
@@ -17,7 +17,8 @@ pub(crate) fn share_to<T: Grows + Drop>(
     count: usize,
 ) -> Result<(), Memory>
     requires { room.old.items ≡ [] }
-    ensures { IfOk result (λ _. (length room.new.items ≡ count) × All (λ x. x ≡ item.now) room.new.items) }
+    ensures count { IfOk result (λ _. length room.new.items ≡ count) }
+    ensures alike { IfOk result (λ _. All (λ x. x ≡ item.now) room.new.items) }
 {
     for _ in 0..count {
         let value = item.value.share()?;
@@ -31,9 +32,9 @@ pub(crate) fn share_to<T: Grows + Drop>(
 
 // Waits until the slot is at home, and takes it.
 fn lock<T: Grows + Drop, W: Wait>(board: &Board<T>, place: &mut Place<T>, w: &W, index: usize)
-    requires table { (place.old.table_id ≡ board.now.shared.table_id) × (place.old.table_id.words ≡ 16 * place.old.table_id.slots) × (place.old.table_id.slots ≤ 64) × (index < place.old.table_id.slots) }
+    requires table { IsAt board.now.shared.table_id place.old × (index < place.old.table_id.slots) }
     requires free { place.old.me.1 ≡ [] }
-    ensures { (place.new.table_id ≡ place.old.table_id) × ((y : Item T) × (place.new.me ≡ (record place.old.me.0 { found = Some y; slot = index + 1 }, (index, y) ∷ []))) }
+    ensures { HasTaken index place.old place.new }
 {
     let backoff = Backoff::new();
     for _ in w.forever() {
@@ -57,8 +58,8 @@ fn hand<T: Grows + Drop, W: Wait>(
     index: usize,
     item: Item<T>,
 )
-    requires table { (place.old.table_id ≡ board.now.shared.table_id) × (place.old.table_id.words ≡ 16 * place.old.table_id.slots) × (place.old.table_id.slots ≤ 64) × (index < place.old.table_id.slots) }
-    requires free { (place.old.me.0.slot ≡ 0) × (place.old.me.1 ≡ []) }
+    requires table { IsAt board.now.shared.table_id place.old × (index < place.old.table_id.slots) }
+    requires free { IsFree place.old }
     requires has { place.old.me.0.mine ≡ Some item }
     ensures { IsHanding place.old place.new }
 {
@@ -75,8 +76,8 @@ fn hand_all<T: Grows + Drop, W: Wait>(
     room: &mut Vec<Item<T>>,
     item: &Item<T>,
 )
-    requires table { (place.old.table_id ≡ board.now.shared.table_id) × (place.old.table_id.words ≡ 16 * place.old.table_id.slots) × (place.old.table_id.slots ≤ 64) × (length room.old.items ≤ place.old.table_id.slots) }
-    requires free { (place.old.me.0.slot ≡ 0) × (place.old.me.1 ≡ []) }
+    requires table { IsAt board.now.shared.table_id place.old × (length room.old.items ≤ place.old.table_id.slots) }
+    requires free { IsFree place.old }
     requires has { place.old.me.0.mine ≡ Some item.now }
     requires alike { All (λ x. x ≡ item.now) room.old.items }
     ensures handed { IsHanding place.old place.new }
@@ -93,8 +94,8 @@ impl<T: Grows + Drop> Setter<T> {
     pub fn set<W: Wait>(&mut self, w: &mut W, value: T) -> Result<(), SetBack<T>>
         requires { T.extends value (last_set self.old) }
         ensures cell { setter_cell self.new ≡ setter_cell self.old }
-        ensures set { IfOk result (λ _. (last_set self.new ≡ value) × (set_before self.new ≡ value ∷ set_before self.old)) }
-        ensures back { IfErr result (λ e. (e.value ≡ value) × (last_set self.new ≡ last_set self.old) × (set_before self.new ≡ set_before self.old)) }
+        ensures set { IfOk result (λ _. HasSet self.old self.new value) }
+        ensures back { IfErr result (λ e. (e.value ≡ value) × StaysSet self.old self.new) }
     {
         let Some(number) = self.last.number.checked_add(1) else {
             return Err(SetBack { value });
@@ -115,9 +116,10 @@ impl<T: Grows + Drop> Setter<T> {
 
     /// What was set before this call, for a viewer to learn.
     pub fn tell(&mut self) -> Told<T>
-        ensures cell { (told_cell result ≡ setter_cell self.old) × (setter_cell self.new ≡ setter_cell self.old) }
+        ensures cell { told_cell result ≡ setter_cell self.old }
+        ensures here { setter_cell self.new ≡ setter_cell self.old }
         ensures told { told_values result ≡ set_before self.old }
-        ensures same { (last_set self.new ≡ last_set self.old) × (set_before self.new ≡ set_before self.old) }
+        ensures same { StaysSet self.old self.new }
     {
         let number = self.last.number;
         let last = match self.last.value.share() {

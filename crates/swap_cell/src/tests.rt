@@ -1,10 +1,10 @@
-ghost use Rattle.std.specs.Prelude.{◌≤◌};
+ghost use Rattle.std.specs.Prelude.{◌≡◌, ◌≤◌};
 ghost use Rattle.swap_cell.specs.Cells.{last_set};
 
 use crate::{SetBack, Setter, Viewer, cell};
 use dp_base::{Grows, Memory};
-use std::sync::Wait;
 use std::sync::atomic::{AtomicU64, Ordering};
+use std::sync::{Arc, Wait};
 use std::test::Fail;
 use std::thread;
 
@@ -15,7 +15,6 @@ struct Level {
 }
 
 impl Grows for Level {
-    ghost use Rattle.std.specs.Prelude.{◌≤◌};
     ghost use Rattle.std.proofs.Common.{le_refl, le_trans};
 
     ghost extends = { λ x y. y.metres ≤ x.metres };
@@ -52,5 +51,82 @@ fn one_sets_and_two_look(mut rt: HostRuntime) -> Result<(), Fail> {
     };
     let text = format!(in rt.alloc(); "{back}")?;
     assert_eq!(rt; text.as_str(), "no memory to set a value");
+    Ok(())
+}
+
+const LAST: u64 = 10_000;
+
+/// What the threads count.
+#[derive(Drop)]
+struct Counts {
+    // 1 when the setter is done.
+    over: AtomicU64,
+    // The looks that went back or found no memory.
+    faults: AtomicU64,
+    // The viewers whose last look showed the last level.
+    at_last: AtomicU64,
+}
+
+/// A setter that has set nothing since the level 0.
+#[derive(Drop)]
+struct Start {
+    setter: Setter<Level>,
+    ghost at_zero: { last_set setter ≡ record { metres = 0 } },
+}
+
+fn set_all<W: Wait + Drop>(mut w: W, start: Start, counts: &Counts) {
+    let Start { mut setter } = start;
+    for metres in 1..LAST + 1 {
+        if setter.set(&mut w, Level { metres }).is_err() {
+            counts.faults.fetch_add(1, Ordering::SeqCst);
+            break;
+        }
+    }
+    counts.over.store(1, Ordering::SeqCst);
+}
+
+fn look_often(viewer: &mut Viewer<Level>, counts: &Counts) {
+    let mut seen = 0;
+    for _ in 0..u64::MAX {
+        let over = counts.over.load(Ordering::SeqCst);
+        match viewer.look() {
+            Ok(level) if level.metres >= seen => seen = level.metres,
+            _ => {
+                counts.faults.fetch_add(1, Ordering::SeqCst);
+            }
+        }
+        if over == 1 {
+            break;
+        }
+    }
+    if seen == LAST {
+        counts.at_last.fetch_add(1, Ordering::SeqCst);
+    }
+}
+
+// One thread sets 10,000 levels while seven look: no look goes back, and the last shows the last.
+#[test]
+fn seven_look_while_one_sets(rt: HostRuntime) -> Result<(), Fail> {
+    let (setter, mut viewers) = cell(rt.alloc(), Level { metres: 0 }, 7)?;
+    let start = Start { setter };
+    let counts = Arc::new(
+        rt.alloc(),
+        Counts {
+            over: AtomicU64::new(0),
+            faults: AtomicU64::new(0),
+            at_last: AtomicU64::new(0),
+        },
+    )?;
+    let theirs = Arc::try_clone(&counts)?;
+    let Ok(child) = thread::spawn(&rt, move || set_all(rt, start, &theirs)) else {
+        panic!(rt; "a thread is made")
+    };
+    let shared: &Counts = &counts;
+    let look = |_: usize, viewer: &mut Viewer<Level>| look_often(viewer, shared);
+    thread::for_each_mut(&rt, viewers.as_mut_slice(), 7, &look);
+    child.join(&rt);
+    let faults = counts.faults.load(Ordering::SeqCst);
+    let at_last = counts.at_last.load(Ordering::SeqCst);
+    assert_eq!(rt; (faults, at_last), (0, 7));
     Ok(())
 }

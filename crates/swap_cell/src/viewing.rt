@@ -1,7 +1,7 @@
 //! What a viewer does.
-ghost use Rattle.std.specs.Prelude.{◌≡◌, ◌*◌, ◌<◌, ◌≤◌, ◌∷◌, ◌++◌, [], Some, IfOk, IfErr};
-ghost use Rattle.swap_cell.specs.Rule.{Each};
-ghost use Rattle.swap_cell.specs.Cells.{viewer_cell, told_cell, known, told_values};
+ghost use Rattle.std.specs.Prelude.{◌≡◌, ◌<◌, Some, IfOk, IfErr};
+ghost use Rattle.swap_cell.specs.Steps.{IsAt, IsFree, StaysKnown};
+ghost use Rattle.swap_cell.specs.Cells.{HasLooked, HasLearnt, viewer_cell, told_cell, known};
 
 use crate::board::{Board, Item, Place, STRIDE};
 use crate::handles::{Told, Viewer};
@@ -16,13 +16,13 @@ fn refresh<T: Grows + Drop>(
     index: usize,
     mine: &mut Item<T>,
 )
-    requires table { (place.old.table_id ≡ board.now.shared.table_id) × (place.old.table_id.words ≡ 16 * place.old.table_id.slots) × (place.old.table_id.slots ≤ 64) × (index < place.old.table_id.slots) }
-    requires free { (place.old.me.0.slot ≡ 0) × (place.old.me.1 ≡ []) }
+    requires table { IsAt board.now.shared.table_id place.old × (index < place.old.table_id.slots) }
+    requires free { IsFree place.old }
     requires has { place.old.me.0.mine ≡ Some mine.old }
     ensures table { place.new.table_id ≡ place.old.table_id }
-    ensures free { (place.new.me.0.slot ≡ 0) × (place.new.me.1 ≡ []) }
+    ensures free { IsFree place.new }
     ensures has { place.new.me.0.mine ≡ Some mine.new }
-    ensures same { (place.new.me.0.known ≡ place.old.me.0.known) × (place.new.me.0.most ≡ place.old.me.0.most) }
+    ensures same { StaysKnown place.old place.new }
 {
     let word = STRIDE * index;
     let shared = &board.shared;
@@ -42,7 +42,7 @@ impl<T: Grows + Drop> Viewer<T> {
     /// the value is the last one that the viewer found or learnt.
     pub fn look(&mut self) -> Result<T, Memory>
         ensures cell { viewer_cell self.new ≡ viewer_cell self.old }
-        ensures looked { IfOk result (λ x. Each (T.extends x) (known self.old) × (known self.new ≡ x ∷ known self.old)) }
+        ensures looked { IfOk result (HasLooked T.extends self.old self.new) }
         ensures memory { IfErr result (λ _. known self.new ≡ known self.old) }
     {
         refresh(&self.board, &mut self.place, self.index, &mut self.mine);
@@ -60,7 +60,7 @@ impl<T: Grows + Drop> Viewer<T> {
     pub fn learn(&mut self, told: Told<T>)
         requires cell { told_cell told ≡ viewer_cell self.old }
         ensures cell { viewer_cell self.new ≡ viewer_cell self.old }
-        ensures learnt { known self.new ≡ told_values told ++ known self.old }
+        ensures learnt { HasLearnt told self.old self.new }
     {
         let Told {
             place,

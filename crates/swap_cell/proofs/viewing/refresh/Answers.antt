@@ -5,32 +5,32 @@ use Rattle.swap_cell.proofs.viewing.refresh.Goals as goal
 
 pub compare_exchange-requires : goal.compare_exchange-requires
 compare_exchange-requires g c = let t = c.requires.table in
-    (t.0, word_within _ _ _ t.0 t.1 t.3, locks g.T.Grows.extends _ _ _ _ (subst (λ z. c.args.index < z.slots) t.0 t.3))
+    (t.0.0, word_within _ _ _ t.0.0 t.0.1 t.1, locks g.T.Grows.extends _ _ _ _ (subst (λ z. c.args.index < z.slots) t.0.0 t.1))
 
 pub slot_mut-requires : goal.slot_mut-requires
 slot_mut-requires g c = let e = c.compare_exchange.ensures in let t = e.2.0 c.if-compare_exchange-ne0.false c.args.index refl in
-    let l = one_slot _ _ _ _ _ t.1 c.requires.free.1 in (e.0 ∙ c.requires.table.0, (t.0, front _ _ _ (ap (λ m. m.1) l)))
+    let l = one_slot _ _ _ _ _ t.1 c.requires.free.1 in (e.0 ∙ c.requires.table.0.0, (t.0, front _ _ _ (ap (λ m. m.1) l)))
 
 pub slot_mut-requires-then-slot_mut-mine : goal.slot_mut-requires-then-slot_mut-mine
-slot_mut-requires-then-slot_mut-mine g c = (c.compare_exchange.ensures.0 ∙ c.requires.table.0, (c.slot_mut.result.now, refl))
+slot_mut-requires-then-slot_mut-mine g c = (c.compare_exchange.ensures.0 ∙ c.requires.table.0.0, (c.slot_mut.result.now, refl))
 
 pub store-requires : goal.store-requires
 store-requires g c = let e = c.compare_exchange.ensures in let t = e.2.0 c.if-compare_exchange-ne0.false c.args.index refl in
     let l = one_slot _ _ _ _ _ t.1 c.requires.free.1 in let q = c.requires.table in let v = c.compare_exchange.new.seat.me.0 in (
-      e.0 ∙ q.0,
-      word_within _ _ _ q.0 q.1 q.3,
+      e.0 ∙ q.0.0,
+      word_within _ _ _ q.0.0 q.0.1 q.1,
       swaps g.T.Grows.extends _ _ c.args.index v c.args.mine.now _ (λ i. (v, (c.args.index, c.swap.ensures.x_after i) ∷ ap (λ m. rest m.1) l i))
-          (ap (λ m. m.0.slot) l) (subst (λ z. c.args.index < z.slots) q.0 q.3) (inr (ap (λ m. m.0.mine) l ∙ c.requires.has)),
+          (ap (λ m. m.0.slot) l) (subst (λ z. c.args.index < z.slots) q.0.0 q.1) (inr (ap (λ m. m.0.mine) l ∙ c.requires.has)),
     )
 
 pub store-requires-else-slot_mut-mine : goal.store-requires-else-slot_mut-mine
 store-requires-else-slot_mut-mine g c = let e = c.compare_exchange.ensures in let t = e.2.0 c.if-compare_exchange-ne0.false c.args.index refl in
     let l = one_slot _ _ _ _ _ t.1 c.requires.free.1 in let q = c.requires.table in let v = c.compare_exchange.new.seat.me.0 in
     let y = c.slot_mut.result.now in let same : t.0 ≡ y = same_head _ _ _ _ _ _ _ (ap (λ m. m.1) l) c.slot_mut.ensures.value in (
-      e.0 ∙ q.0,
-      word_within _ _ _ q.0 q.1 q.3,
+      e.0 ∙ q.0.0,
+      word_within _ _ _ q.0.0 q.0.1 q.1,
       frees g.T.Grows.extends _ _ c.args.index v y _ (λ i. (v, (c.args.index, y) ∷ ap (λ m. rest m.1) l i))
-          (ap (λ m. m.0.slot) l) (subst (λ z. c.args.index < z.slots) q.0 q.3) (inl (ap (λ m. m.0.found) l ∙ ap Some same)),
+          (ap (λ m. m.0.slot) l) (subst (λ z. c.args.index < z.slots) q.0.0 q.1) (inl (ap (λ m. m.0.found) l ∙ ap Some same)),
     )
 
 pub returns-then-slot_mut-mine-clause-free : goal.returns-then-slot_mut-mine-clause-free

@@ -1,10 +1,9 @@
 -- A list that was refused has the cause that is told.
-use Rattle.std.proofs.Common.{◌≡◌, ◌⊎◌, ℕ, ◌<◌, List, length, take, drop, Result, Ok, Err, refl, inl, inr}
+use Rattle.std.proofs.Common.{◌≡◌, ◌⊎◌, ℕ, ◌<◌, List, length, take, drop, Ok, Err, refl, inl, inr}
 use Rattle.key_elements.specs.declared.element.Element.{Element}
 use Rattle.key_elements.specs.declared.list.TheConstants.{MAX_ELEMENTS}
 use Rattle.key_elements.specs.declared.refused.ElementRefused.{ElementRefused}
 use Rattle.key_elements.specs.declared.refused.ElementRefused.TheVariants.{Cut, UnknownKind, BadDate, BadReason, Memory}
-use Rattle.key_elements.specs.declared.refused.ListRefused.{ListRefused}
 use Rattle.key_elements.specs.declared.refused.ListRefused.TheVariants as lists
 use Rattle.key_elements.specs.Record.{AreRecords, IsList}
 use Rattle.key_elements.specs.Reading.{element_at, IsRefusedAt}

@@ -6,7 +6,7 @@ use Rattle.key_elements.specs.declared.element.Element.{Element}
 use Rattle.key_elements.specs.declared.element.Element.TheVariants.{Key, RevokeKey, RevokeBefore}
 use Rattle.key_elements.specs.declared.refused.ElementRefused.{ElementRefused}
 use Rattle.key_elements.specs.Record.{IsElement, IsRecord, record_of}
-use Rattle.key_elements.specs.Reading.{key_at, revocation_at, mass_revocation_at, element_at}
+use Rattle.key_elements.specs.Reading.{key_at, element_at}
 use Rattle.key_elements.proofs.Fields.{bind_ok}
 use Rattle.key_elements.proofs.Keys.{key_takes, key_again}
 use Rattle.key_elements.proofs.Revocations.{revocation_takes, revocation_again, mass_takes, mass_again}

@@ -15,7 +15,7 @@ use Rattle.key_elements.specs.Reason.{IsReason}
 use Rattle.key_elements.specs.declared.refused.ElementRefused.{ElementRefused}
 use Rattle.key_elements.specs.declared.refused.ElementRefused.TheVariants.{Cut, BadDate, BadReason}
 use Rattle.key_elements.specs.Record.{date, reason_field}
-use Rattle.key_elements.specs.Reading.{◌>>=◌, bytes_at, date_at, length_refused, length_read, length_at, reason_at}
+use Rattle.key_elements.specs.Reading.{◌>>=◌, bytes_at, date_at, length_read, length_at, reason_at}
 
 pub AreBytes-drop : (n : ℕ) (bytes : List ℕ) → AreBytes bytes → AreBytes (drop n bytes)
 AreBytes-drop n bytes fits i = rw get_or-drop (fits (n + i))

@@ -1,6 +1,6 @@
 -- No record is longer than the longest.
-use Rattle.std.proofs.Common.{◌≡◌, ℕ, ◌+◌, ◌/◌, ◌%◌, ◌≤◌, ◌<◌, true, false, ltb, cond, List, [], ◌∷◌, ◌++◌, length, refl, arith}
-use Rattle.std.proofs.lemmas.Bool.{ltb-false, lt-ltb}
+use Rattle.std.proofs.Common.{◌≡◌, ℕ, ◌+◌, ◌/◌, ◌%◌, ◌≤◌, true, false, ltb, cond, List, [], ◌∷◌, ◌++◌, length, arith}
+use Rattle.std.proofs.lemmas.Bool.{lt-ltb}
 use Rattle.std.proofs.lemmas.List.{length-append}
 use Rattle.dp_base.specs.Guid.{guid}
 use Rattle.dp_base.specs.SevenBit.{groups, seven}

@@ -1,6 +1,6 @@
 -- The fields of revocations: those that are read stand in the bytes, and those that stand there are
 -- read.
-use Rattle.std.proofs.Common.{◌≡◌, ℕ, List, ◌++◌, length, Result, Ok, refl, sym, ap, subst, ◌∙◌, append_assoc}
+use Rattle.std.proofs.Common.{◌≡◌, ℕ, List, ◌++◌, Result, Ok, refl, sym, ap, subst, ◌∙◌, append_assoc}
 use Rattle.dp_base.specs.declared.key_id.KeyId.{KeyId}
 use Rattle.dp_base.specs.Blocks.{AreBytes}
 use Rattle.dp_base.specs.Guid.{guid, id_of_guid}
@@ -8,7 +8,6 @@ use Rattle.dp_base.proofs.Guid.{guid-id_of_guid, id_of_guid-guid, length-guid, i
 use Rattle.key_elements.specs.declared.element.Element.{Element}
 use Rattle.key_elements.specs.declared.element.Element.TheVariants.{RevokeKey, RevokeBefore}
 use Rattle.key_elements.specs.declared.refused.ElementRefused.{ElementRefused}
-use Rattle.key_elements.specs.Reason.{IsReason}
 use Rattle.key_elements.specs.Record.{date, reason_field, IsRevocation, IsMassRevocation}
 use Rattle.key_elements.specs.Reading.{◌>>=◌, bytes_at, date_at, reason_at, revocation_at, mass_revocation_at}
 use Rattle.key_elements.proofs.Fields.{bind_ok, Takes, Takes-then, TakesBytes, bytes_takes, bytes_again, TakesDate, date_takes, date_again, TakesReason, reason_takes, reason_again}

@@ -184,12 +184,18 @@ fn places(rt: HostRuntime) -> Result<(), Fail> {
     most.push(1)?;
     let refused = ListRefused::TooMany { place: 606_208 };
     assert!(rt; read_list(alloc, most.as_slice()).err() == Some(refused));
-    let tail = Vec::new(alloc);
-    assert!(rt; list.extended(alloc, tail).is_ok());
-    let mut tail = Vec::new(alloc);
-    tail.push(key())?;
-    assert!(rt; list.extended(alloc, tail).err() == Some(TooMany::TooMany));
+    let refused = with_one(alloc, &list, &REVOCATION).err();
+    assert!(rt; refused == Some(TooMany::TooMany));
     Ok(())
+}
+
+// The list with the element of a record behind it.
+fn with_one(alloc: Global, list: &ElementList, bytes: &[u8]) -> Result<ElementList, TooMany> {
+    let mut tail = Vec::new(alloc);
+    if let Ok((element, _)) = read_element(alloc, bytes) {
+        tail.push(element)?;
+    }
+    list.extended(alloc, tail)
 }
 
 // Lists that share their first element and then differ.
@@ -198,15 +204,13 @@ fn lists(rt: HostRuntime) -> Result<(), Fail> {
     let alloc = rt.alloc();
     let empty = ElementList::empty();
     assert!(rt; empty.is_empty() && empty.share()?.is_empty());
-    let one = read_list(alloc, key_record(alloc)?.as_slice())?;
-    let mut left = Vec::new(alloc);
-    left.push(mass_revocation(alloc)?)?;
-    let mut right = Vec::new(alloc);
-    right.push(key())?;
-    let left = one.share()?.extended(alloc, left)?;
-    let right = one.extended(alloc, right)?;
+    let bytes = key_record(alloc)?;
+    let one = with_one(alloc, &empty, bytes.as_slice())?;
+    let left = with_one(alloc, &one.share()?, &REVOCATION)?;
+    let right = with_one(alloc, &one, bytes.as_slice())?;
     assert_eq!(rt; (one.len(), left.len(), right.len()), (1, 2, 2));
-    assert!(rt; left.get(0) == Some(&key()) && left.get(1) == Some(&mass_revocation(alloc)?));
+    assert!(rt; left.get(0) == Some(&key()) && right.get(1) == Some(&key()));
+    assert!(rt; left.get(1) == Some(&revocation(alloc, "lost laptop")?));
     assert!(rt; left.get(2).is_none());
     assert_eq!(rt; left.first_difference(&one), None);
     assert_eq!(rt; left.first_difference(&right), Some(1));

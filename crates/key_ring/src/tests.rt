@@ -150,7 +150,7 @@ fn dues(rt: HostRuntime) -> Result<(), Fail> {
     assert_eq!(rt; ring.due(day(0), 1), None);
     assert_eq!(rt; ring.due(day(0), 2), Some(Why::Wanted { want: 2, held }));
     assert_eq!(rt; ring.due(now, 2), Some(Why::Ended { until, now }));
-    let later = ring.extended(day(0), 2)?.share()?;
+    let later = ring.extended(day(0).min(LAST), 2)?.share()?;
     assert_eq!(rt; later.due(day(0), 2), None);
     assert_eq!(rt; later.excused(), 2);
     assert_eq!(rt; later.until(), day(0).saturating_add(EXTENSION));

@@ -1,4 +1,4 @@
-use Rattle.std.proofs.Common.{sym, arith}
+use Rattle.std.proofs.Common.{arith}
 use Rattle.std.proofs.lemmas.Result.{err_from_is_err_and}
 use Rattle.key_elements.proofs.Elements.{reads_record, reads_only, reads_same}
 use Rattle.key_elements.proofs.Answered.{want_only}

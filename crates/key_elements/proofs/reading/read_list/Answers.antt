@@ -1,8 +1,7 @@
-use Rattle.std.proofs.Common.{◌≡◌, ◌≤◌, ◌+◌, ◌-◌, ◌∷◌, [], ◌++◌, List, length, map, drop, refl, sym, ap, ◌∙◌, arith}
+use Rattle.std.proofs.Common.{◌≡◌, ◌≤◌, ◌+◌, ◌-◌, ◌∷◌, [], ◌++◌, List, length, map, drop, ap, ◌∙◌, arith}
 use Rattle.std.specs.Arc.{arc_value}
 use Rattle.std.proofs.lemmas.List.{length-drop, length_push, take_rest, map-append, length-map}
 use Rattle.key_elements.specs.declared.element.Element.{Element}
-use Rattle.key_elements.specs.declared.list.TheConstants.{MAX_ELEMENTS}
 use Rattle.key_elements.proofs.Lists.{AreRecords-push, whole_only, full_none}
 use Rattle.key_elements.proofs.Causes.{StopsAt, explained, memory_only}
 use Rattle.key_elements.proofs.reading.read_list.Goals as goal

@@ -1,4 +1,4 @@
-use Rattle.std.proofs.Common.{◌≡◌, ◌<◌, ℕ, List, length, Result, Err, sym, ap, arith}
+use Rattle.std.proofs.Common.{◌<◌, ℕ, List, length, Result, Err, sym, ap, arith}
 use Rattle.key_elements.specs.declared.reason.TooLong.{TooLong}
 use Rattle.key_elements.specs.declared.reason.TheConstants.{MAX_REASON}
 use Rattle.key_elements.proofs.Fields.{reason_takes}

@@ -1,7 +1,6 @@
 use Rattle.std.proofs.Common.{◌≤◌, length, arith}
 use Rattle.std.proofs.lemmas.Str.{is_utf8-from_IsUtf8}
 use Rattle.key_elements.specs.declared.reason.TheConstants.{MAX_REASON}
-use Rattle.key_elements.specs.Reason.{IsReason}
 use Rattle.key_elements.proofs.reason.Reason.new.Goals as goal
 
 pub invariant_of-result : goal.invariant_of-result

@@ -12,6 +12,8 @@ use std::alloc::{AllocError, Global};
 /// The most bytes of a list of elements.
 pub const MAX_INPUT: usize = MAX_ELEMENTS as usize * MAX_RECORD;
 
+const _: () = prove!(MAX_INPUT == 17_219_584);
+
 // How many bytes a read asks for.
 const PIECE: usize = 4_096;
 

@@ -70,9 +70,10 @@ fn length_at(bytes: &[u8]) -> Result<(usize, &[u8]), ElementRefused>
     Ok((len as usize, &bytes[count..]))
 }
 
-// The text of a reason, and the rest.
+/// Reads the text of a reason at the front, its length before it, and answers the rest too. No byte
+/// is copied.
 #[tactic(auto, unfolding(crate::specs::Reading::reason_at))]
-fn text_at(bytes: &[u8]) -> Result<(&str, &[u8]), ElementRefused>
+pub fn read_reason(bytes: &[u8]) -> Result<(&str, &[u8]), ElementRefused>
     ensures { seen (λ x. (x.0.now, x.1.now)) result ≡ reason_at bytes.now }
 {
     let (len, rest) = length_at(bytes)?;
@@ -87,7 +88,7 @@ fn text_at(bytes: &[u8]) -> Result<(&str, &[u8]), ElementRefused>
 fn reason_at(alloc: Global, bytes: &[u8]) -> Result<(Reason, &[u8]), ElementRefused>
     ensures { Answers (λ x. (x.0, x.1.now)) result (reason_at bytes.now) }
 {
-    let (text, rest) = text_at(bytes)?;
+    let (text, rest) = read_reason(bytes)?;
     match Reason::new(alloc, text) {
         Ok(reason) => Ok((reason, rest)),
         Err(TooLong::TooLong) => Err(ElementRefused::BadReason),

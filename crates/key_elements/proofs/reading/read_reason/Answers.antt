@@ -2,7 +2,7 @@ use Rattle.std.proofs.Common.{◌≡◌, Bool, true, false, refl, sym}
 use Rattle.std.specs.Str.{is_utf8}
 use Rattle.std.proofs.lemmas.Str.{is_utf8-from_IsUtf8, IsUtf8-from_is_utf8}
 use Rattle.key_elements.specs.Reading.{reason_at}
-use Rattle.key_elements.proofs.reading.text_at.Goals as goal
+use Rattle.key_elements.proofs.reading.read_reason.Goals as goal
 
 not_text : (b : Bool) → (b ≡ true → ⊥) → b ≡ false
 not_text true h = absurd (h refl)

@@ -3,9 +3,11 @@
 
 mod encryptor;
 mod forms;
+mod law;
 mod table;
 #[cfg(test)]
 mod tests;
 
 pub use encryptor::{BodyRefused, Encryptor};
+pub use law::opening_undoes_sealing;
 pub use table::HeaderTable;

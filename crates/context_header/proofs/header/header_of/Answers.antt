@@ -1,4 +1,4 @@
-use Rattle.std.proofs.Common.{◌≡◌, ◌+◌, ◌≤◌, take, refl, ap, ◌∙◌, arith}
+use Rattle.std.proofs.Common.{◌≡◌, refl, ◌∙◌, arith}
 use Rattle.context_header.specs.Header.{context_header}
 use Rattle.context_header.proofs.header.header_of.Goals as goal
 use Rattle.context_header.proofs.header.header_of.Goals.{in-Cbc256, in-Cbc512, in-Gcm}

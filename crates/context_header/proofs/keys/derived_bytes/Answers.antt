@@ -1,4 +1,4 @@
-use Rattle.std.proofs.Common.{◌≡◌, List, ℕ, length, take, replicate, refl, sym, ap, ◌∙◌, arith}
+use Rattle.std.proofs.Common.{◌≡◌, List, ℕ, length, take, replicate, ◌∙◌, arith}
 use Rattle.std.proofs.lemmas.List.{take_at, length-take}
 use Rattle.context_header.proofs.keys.derived_bytes.Goals as goal
 

@@ -1,6 +1,5 @@
-use Rattle.std.proofs.Common.{◌≡◌, ◌+◌, ◌-◌, List, ℕ, length, take, drop, refl, sym, ap, ◌∙◌, arith}
+use Rattle.std.proofs.Common.{◌≡◌, ◌+◌, ◌-◌, List, ℕ, take, drop, refl, sym, ap, ◌∙◌, arith}
 use Rattle.std.proofs.lemmas.List.{drop-take, take-take}
-use Rattle.context_header.specs.Algorithms.{key_len, mac_len}
 use Rattle.context_header.specs.Keys.{KeyPair, derived}
 use Rattle.context_header.proofs.keys.Keys.derive.Goals as goal
 

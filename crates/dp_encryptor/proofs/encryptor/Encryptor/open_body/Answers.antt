@@ -1,7 +1,6 @@
-use Rattle.std.proofs.Common.{◌≡◌, ◌≢◌, ◌⊎◌, List, ℕ, ◌++◌, refl, sym, ap, subst, ◌∙◌}
+use Rattle.std.proofs.Common.{◌≡◌, ◌⊎◌, refl, sym, ap, subst, ◌∙◌}
 use Rattle.dp_base.specs.declared.alg.Alg.{Alg}
 use Rattle.dp_base.specs.declared.alg.Alg.TheVariants.{Cbc256, Cbc512}
-use Rattle.dp_base.specs.declared.alg.AesSize.{AesSize}
 use Rattle.context_header.specs.Keys.{KeyPair}
 use Rattle.payload_view.specs.Payload.{Parts}
 use Rattle.dp_encryptor.specs.Body.{Secret, subkeys, HasTag, Unpads}

@@ -64,7 +64,8 @@ fn flight<W, H: Host<W>, R: Repo<W>, D: Draw>(
     requires looked { (H.state host.old).looked ≡ sight.now.ring }
     requires in_line { Agree (H.state host.old).own sight.now.ring.list }
     requires room { length steps.old + 5 ≤ 24 }
-    ensures did { Does (FlightGives (call at (H.state host.old) (R.store repo.new).list).terms (longer (H.state host.old).own sight.now.ring.list) (sight_of sight.now) (seen result))
+    ensures did { Does (FlightGives (call at (H.state host.old) (R.store repo.new).list).terms
+        (longer (H.state host.old).own sight.now.ring.list) (sight_of sight.now) (seen result))
         (books steps.old (H.state host.old) (R.store repo.old) (D.draws draw.old))
         (books steps.new (H.state host.new) (R.store repo.new) (D.draws draw.new)) }
     ensures steady { Steady (H.state host.old) (H.state host.new) }
@@ -114,7 +115,8 @@ fn under_turn<W, H: Host<W>, R: Repo<W>, D: Draw>(
     requires held { (H.state host.old).held ≡ true }
     requires target { target ≡ max at.need (length (H.state host.old).own) }
     requires room { length steps.old + 7 ≤ 24 }
-    ensures did { Does (TurnGives (call at (H.state host.old) (R.store repo.new).list) (seen result))
+    ensures did { Does (TurnGives (call at (H.state host.old) (R.store repo.new).list)
+        (seen result))
         (books steps.old (H.state host.old) (R.store repo.old) (D.draws draw.old))
         (books steps.new (H.state host.new) (R.store repo.new) (D.draws draw.new)) }
     ensures steady { Steady (H.state host.old) (H.state host.new) }
@@ -144,12 +146,14 @@ fn find<W, H: Host<W>, R: Repo<W>, D: Draw>(
     requires free { (H.state host.old).held ≡ false }
     requires target { target ≡ max at.need (length (H.state host.old).own) }
     requires room { steps.old ≡ [] }
-    ensures did { Does (PathGives (call at (H.state host.old) (R.store repo.new).list) (seen result))
+    ensures did { Does (PathGives (call at (H.state host.old) (R.store repo.new).list)
+        (seen result))
         (books steps.old (H.state host.old) (R.store repo.old) (D.draws draw.old))
         (books steps.new (H.state host.new) (R.store repo.new) (D.draws draw.new)) }
     ensures steady { Steady (H.state host.old) (H.state host.new) }
     ensures extends { IfOk result (λ ring. Extends ring.list (H.state host.old).own) }
-    ensures looked { IfOk result (λ ring. is_private steps.new ≡ false → (H.state host.new).looked ≡ ring) }
+    ensures looked { IfOk result (λ ring. is_private steps.new ≡ false →
+        (H.state host.new).looked ≡ ring) }
     ensures room { length steps.new ≤ 11 }
 {
     let sight = look_once(host, steps)?;
@@ -185,10 +189,11 @@ fn find<W, H: Host<W>, R: Repo<W>, D: Draw>(
 // 1. Ask the want number and look. Where the ring isn't due and has the target's elements, answer
 //    by it.
 // 2. Otherwise try to take the turn.
-// 3. Where somebody else holds it and the ring has the target's elements, answer by it, though it is
-//    due.
-// 4. Where somebody else holds it and the ring is shorter, read on from the longer of the two lists,
-//    and make a ring of one's own, without a jitter. Nothing is published, and no key is made.
+// 3. Where somebody else holds it and the ring has the target's elements, answer by it, though it
+//    is due.
+// 4. Where somebody else holds it and the ring is shorter, read on from the longer of the two
+//    lists, and make a ring of one's own, without a jitter. Nothing is published, and no key is
+//    made.
 // 5. With the turn, ask the want number and look once more. Where the ring is enough, give the turn
 //    back and answer by it.
 // 6. Otherwise begin a flight, on the longer of the two lists.
@@ -196,10 +201,10 @@ fn find<W, H: Host<W>, R: Repo<W>, D: Draw>(
 // 8. Where a key is due, keys are made automatically and there is room, draw eighty bytes for a key
 //    and append it. Where the repository is full, go on without it.
 // 9. Publish the ring of the list, give the turn back, and answer by it.
-// 10. Where a call of the flight fails or finds fewer elements, publish the ring of step 5, extended,
-//     give the turn back, and answer the refusal.
-// 11. The pass has seen the list of the ring that answers. Where that is shorter than what was needed,
-//     the answer says so.
+// 10. Where a call of the flight fails or finds fewer elements, publish the ring of step 5,
+//     extended, give the turn back, and answer the refusal.
+// 11. The pass has seen the list of the ring that answers. Where that is shorter than what was
+//     needed, the answer says so.
 //
 // Want of memory while the turn is held gives it back, and publishes nothing more.
 
@@ -217,13 +222,15 @@ pub fn ring_for<W, H: Host<W>, R: Repo<W>, D: Draw>(
     requires moment { at.now ≤ LAST }
     requires free { (H.state host.old).held ≡ false }
     requires room { steps.old ≡ [] }
-    ensures path { Does (CallPath (call at (H.state host.old) (R.store repo.new).list) (seen result) (H.state host.new).own)
+    ensures path { Does (CallPath (call at (H.state host.old) (R.store repo.new).list)
+        (seen result) (H.state host.new).own)
         (books [] (H.state host.old) (R.store repo.old) (D.draws draw.old))
         (books steps.new (H.state host.new) (R.store repo.new) (D.draws draw.new)) }
     ensures free { (H.state host.new).held ≡ false }
     ensures grows { Extends (H.state host.new).own (H.state host.old).own }
     ensures enough { IfOk result (λ ring. at.need ≤ length ring.list) }
-    ensures looked { IfOk result (λ ring. is_private steps.new ≡ false → (H.state host.new).looked ≡ ring) }
+    ensures looked { IfOk result (λ ring. is_private steps.new ≡ false →
+        (H.state host.new).looked ≡ ring) }
     ensures few { length steps.new ≤ 24 }
 {
     let target = at.need.max(host.own().len());

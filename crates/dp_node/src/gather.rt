@@ -91,8 +91,10 @@ pub(crate) fn read_on<W, R: Repo<W>>(
     steps: &mut StepList,
 ) -> Result<ElementList, NodeError>
     requires { length steps.old + 1 ≤ 24 }
-    ensures did { (host : HostState) (draws : DrawState) → Does (Reads private (R.store repo.new).list base.now (seen result))
-        (books steps.old host (R.store repo.old) draws) (books steps.new host (R.store repo.new) draws) }
+    ensures did { (host : HostState) (draws : DrawState) → Does (Reads private
+        (R.store repo.new).list base.now (seen result))
+        (books steps.old host (R.store repo.old) draws) (books steps.new host
+        (R.store repo.new) draws) }
     ensures room { length steps.new ≤ length steps.old + 1 }
     ensures extends { IfOk result (λ list. Extends list base.now) }
 {
@@ -109,7 +111,8 @@ pub(crate) fn read_on<W, R: Repo<W>>(
 pub(crate) fn draw_word<D: Draw>(draw: &mut D, steps: &mut StepList) -> Result<[u8; 8], NodeError>
     requires { length steps.old + 1 ≤ 24 }
     ensures did { (host : HostState) (store : Store) → Does (DrawGives 8 (seen result))
-        (books steps.old host store (D.draws draw.old)) (books steps.new host store (D.draws draw.new)) }
+        (books steps.old host store (D.draws draw.old)) (books steps.new host store
+        (D.draws draw.new)) }
     ensures room { length steps.new ≤ length steps.old + 1 }
 {
     let mut word = [0; 8];
@@ -125,8 +128,8 @@ pub(crate) fn draw_word<D: Draw>(draw: &mut D, steps: &mut StepList) -> Result<[
     }
 }
 
-/// Appends an element to the list, and gives the list with it. The step is recorded before memory is
-/// taken for the list.
+/// Appends an element to the list, and gives the list with it. The step is recorded before memory
+/// is taken for the list.
 pub(crate) fn append_on<W, R: Repo<W>>(
     w: &mut W,
     alloc: Global,
@@ -137,8 +140,10 @@ pub(crate) fn append_on<W, R: Repo<W>>(
 ) -> Result<ElementList, NodeError>
     requires room { length steps.old + 1 ≤ 24 }
     requires element { IsElement element.now }
-    ensures did { (host : HostState) (draws : DrawState) → Does (Appends (R.store repo.new).list list.now element.now (seen result))
-        (books steps.old host (R.store repo.old) draws) (books steps.new host (R.store repo.new) draws) }
+    ensures did { (host : HostState) (draws : DrawState) → Does (Appends
+        (R.store repo.new).list list.now element.now (seen result))
+        (books steps.old host (R.store repo.old) draws) (books steps.new host
+        (R.store repo.new) draws) }
     ensures room { length steps.new ≤ length steps.old + 1 }
     ensures extends { IfOk result (λ grown. Extends grown list.now) }
 {
@@ -186,8 +191,10 @@ pub(crate) fn draw_key<D: Draw>(
 ) -> Result<Element, NodeError>
     requires room { length steps.old + 1 ≤ 24 }
     requires dates { AreBadDates creation activation expiration → ⊥ }
-    ensures did { (host : HostState) (store : Store) → Does (KeyGives (λ b. key_of_draw b creation activation expiration (code_of alg)) (seen result))
-        (books steps.old host store (D.draws draw.old)) (books steps.new host store (D.draws draw.new)) }
+    ensures did { (host : HostState) (store : Store) → Does (KeyGives
+        (λ b. key_of_draw b creation activation expiration (code_of alg)) (seen result))
+        (books steps.old host store (D.draws draw.old)) (books steps.new host store
+        (D.draws draw.new)) }
     ensures room { length steps.new ≤ length steps.old + 1 }
     ensures element { IfOk result IsElement }
     ensures key { IfOk result IsKeyElement }
@@ -239,7 +246,8 @@ pub(crate) fn gather<W, R: Repo<W>, D: Draw>(
 ) -> Result<Ring, NodeError>
     requires room { length steps.old + 4 ≤ 24 }
     requires moment { now ≤ LAST }
-    ensures did { (host : HostState) → Does (Gathers (terms now options.now opening (R.store repo.new).list) base.now (seen result))
+    ensures did { (host : HostState) → Does (Gathers (terms now options.now opening
+        (R.store repo.new).list) base.now (seen result))
         (books steps.old host (R.store repo.old) (D.draws draw.old))
         (books steps.new host (R.store repo.new) (D.draws draw.new)) }
     ensures room { length steps.new ≤ length steps.old + 4 }

@@ -58,9 +58,9 @@ fn refused_as(why: &NodeError) -> OpenRefused
 }
 
 impl Solo {
-    /// Opens a node at the moment, in ticks, over all that the repository holds. Where no key
-    /// follows the preferred one soon enough and keys are made automatically, one is made; where the
-    /// repository has no place for it, the ring is made without it.
+    /// Opens a node at the moment, in ticks, over all that the repository holds. Where a key is due
+    /// and keys are made automatically, one is made; where the repository has no place for it, the
+    /// ring is made without it.
     pub fn open<R: Repo<()>, D: Draw>(
         alloc: Global,
         repo: &mut R,
@@ -69,8 +69,10 @@ impl Solo {
         options: Options,
     ) -> Result<Solo, OpenRefused>
         requires moment { now ≤ LAST }
-        ensures opened { (r : Result RingOf Refusal) × (steps : List Step) × Opens (first_facts now options) result r
-            × ((host : HostState) → Does (Gathers (terms now options true (R.store repo.new).list) [] r)
+        ensures opened { (r : Result RingOf Refusal) × (steps : List Step) × Opens
+            (first_facts now options) result r
+            × ((host : HostState) → Does (Gathers (terms now options true
+            (R.store repo.new).list) [] r)
             (books [] host (R.store repo.old) (D.draws draw.old))
             (books steps host (R.store repo.new) (D.draws draw.new))) }
     {

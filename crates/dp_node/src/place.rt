@@ -43,7 +43,8 @@ fn place_on<W, H: Host<W>, R: Repo<W>>(
 ) -> Result<u64, NodeError>
     requires room { length steps.old + 3 ≤ 24 }
     requires element { IsElement element.now }
-    ensures did { (draws : DrawState) → Does (PlacePath (asked (H.state host.old).own false (λ _. element.now) (R.store repo.new).list) (seen result) (H.state host.new).own)
+    ensures did { (draws : DrawState) → Does (PlacePath (asked (H.state host.old).own false
+        (λ _. element.now) (R.store repo.new).list) (seen result) (H.state host.new).own)
         (books steps.old (H.state host.old) (R.store repo.old) draws)
         (books steps.new (H.state host.new) (R.store repo.new) draws) }
     ensures last { IfOk result (λ _. EndsWith element.now (H.state host.new).own) }
@@ -99,11 +100,14 @@ pub fn roll<W, H: Host<W>, R: Repo<W>, D: Draw>(
 ) -> Result<Placed, NodeError>
     requires moment { now ≤ LAST }
     requires room { steps.old ≡ [] }
-    ensures path { (AreBadDates now activation expiration → ⊥) → Does (PlacePath (asked (H.state host.old).own true (λ b. key_of_draw b now activation expiration (code_of alg)) (R.store repo.new).list) (placed result) (H.state host.new).own)
+    ensures path { (AreBadDates now activation expiration → ⊥) → Does (PlacePath (asked
+        (H.state host.old).own true (λ b. key_of_draw b now activation expiration (code_of alg))
+        (R.store repo.new).list) (placed result) (H.state host.new).own)
         (books [] (H.state host.old) (R.store repo.old) (D.draws draw.old))
         (books steps.new (H.state host.new) (R.store repo.new) (D.draws draw.new)) }
     ensures bad_dates { (result ≡ Err BadDates) ↔ AreBadDates now activation expiration }
-    ensures untouched { AreBadDates now activation expiration → (host.new ≡ host.old) × (repo.new ≡ repo.old) × (draw.new ≡ draw.old) × (steps.new ≡ []) }
+    ensures untouched { AreBadDates now activation expiration → (host.new ≡ host.old) ×
+        (repo.new ≡ repo.old) × (draw.new ≡ draw.old) × (steps.new ≡ []) }
     ensures id { IfOk result (λ placed. EndsWithKey placed.id (H.state host.new).own) }
     ensures held { (H.state host.new).held ≡ (H.state host.old).held }
     ensures grows { Extends (H.state host.new).own (H.state host.old).own }
@@ -132,7 +136,9 @@ pub fn revoke<W, H: Host<W>, R: Repo<W>>(
 ) -> Result<u64, NodeError>
     requires moment { now ≤ LAST }
     requires room { steps.old ≡ [] }
-    ensures path { (draws : DrawState) → Does (PlacePath (asked (H.state host.old).own false (λ _. RevokeKey id now reason) (R.store repo.new).list) (seen result) (H.state host.new).own)
+    ensures path { (draws : DrawState) → Does (PlacePath (asked (H.state host.old).own false
+        (λ _. RevokeKey id now reason) (R.store repo.new).list) (seen result)
+        (H.state host.new).own)
         (books [] (H.state host.old) (R.store repo.old) draws)
         (books steps.new (H.state host.new) (R.store repo.new) draws) }
     ensures held { (H.state host.new).held ≡ (H.state host.old).held }
@@ -145,8 +151,8 @@ pub fn revoke<W, H: Host<W>, R: Repo<W>>(
     }
 }
 
-/// Revokes all keys that were made before the date, in ticks, and gives the place of the revocation,
-/// from 0.
+/// Revokes all keys that were made before the date, in ticks, and gives the place of the
+/// revocation, from 0.
 pub fn revoke_before<W, H: Host<W>, R: Repo<W>>(
     w: &mut W,
     alloc: Global,
@@ -157,11 +163,14 @@ pub fn revoke_before<W, H: Host<W>, R: Repo<W>>(
     steps: &mut StepList,
 ) -> Result<u64, NodeError>
     requires room { steps.old ≡ [] }
-    ensures path { (date ≤ MAX_TICKS) → (draws : DrawState) → Does (PlacePath (asked (H.state host.old).own false (λ _. RevokeBefore date reason) (R.store repo.new).list) (seen result) (H.state host.new).own)
+    ensures path { (date ≤ MAX_TICKS) → (draws : DrawState) → Does (PlacePath (asked
+        (H.state host.old).own false (λ _. RevokeBefore date reason) (R.store repo.new).list)
+        (seen result) (H.state host.new).own)
         (books [] (H.state host.old) (R.store repo.old) draws)
         (books steps.new (H.state host.new) (R.store repo.new) draws) }
     ensures bad_dates { (result ≡ Err BadDates) ↔ (MAX_TICKS < date) }
-    ensures untouched { MAX_TICKS < date → (host.new ≡ host.old) × (repo.new ≡ repo.old) × (steps.new ≡ []) }
+    ensures untouched { MAX_TICKS < date → (host.new ≡ host.old) × (repo.new ≡ repo.old) ×
+        (steps.new ≡ []) }
     ensures held { (H.state host.new).held ≡ (H.state host.old).held }
     ensures grows { Extends (H.state host.new).own (H.state host.old).own }
     ensures few { length steps.new ≤ 24 }

@@ -53,14 +53,16 @@ pub(crate) fn fork(at: u64, own: &ElementList, other: &ElementList) -> Result<Fo
     })
 }
 
-/// Asks the want number and looks, once each. A ring whose list differs from the own one is refused.
+/// Asks the want number and looks, once each. A ring whose list differs from the own one is
+/// refused.
 pub(crate) fn look_once<H: HostView>(host: &mut H, steps: &mut StepList) -> Result<Sight, NodeError>
     requires { length steps.old + 2 ≤ 24 }
     ensures host { IfOk result (λ s. H.state host.new ≡ sighted (sight_of s) (H.state host.old)) }
     ensures steps { IfOk result (λ s. steps.new ≡ steps.old ++ sight_steps (sight_of s)) }
     ensures shows { IfOk result (λ s. SeenBy (sight_of s) (H.state host.old)) }
     ensures in_line { IfOk result (λ s. Agree (H.state host.old).own s.ring.list) }
-    ensures err { IfErr result (λ why. LookRefused why (H.state host.old) (H.state host.new) steps.old steps.new) }
+    ensures err { IfErr result (λ why. LookRefused why (H.state host.old)
+        (H.state host.new) steps.old steps.new) }
 {
     let want = host.want();
     steps.push(Step::Want { n: want });

@@ -1,0 +1,4 @@
+pub mod Frame
+pub mod Request
+pub mod Reading
+pub mod Replies

@@ -18,3 +18,6 @@ pub use host::{Busy, Host, HostView, NodeFacts};
 pub use open::OpenRefused;
 pub use place::{Placed, revoke, revoke_before, roll};
 pub use solo::Solo;
+
+#[cfg(test)]
+mod tests;

@@ -1,5 +1,5 @@
 -- What clauses read of the ends of a cell.
-use Rattle.std.specs.Prelude.{◌≡◌, List, [], ◌∷◌, ◌++◌, map}
+use Rattle.std.specs.Prelude.{◌≡◌, ℕ, List, ◌∷◌, ◌++◌, map}
 use Rattle.atomic_table.specs.Seated.{TableId}
 use Rattle.swap_cell.specs.declared.board.Item.{Item}
 use Rattle.swap_cell.specs.declared.handles.Setter.{Setter}
@@ -17,6 +17,10 @@ module _ {T : Type 0} where
 
   abbrev pub viewer_cell : Viewer T → TableId
   viewer_cell v = v.place.table_id
+
+  -- the number of a viewer's slot
+  abbrev pub viewer_slot : Viewer T → ℕ
+  viewer_slot v = v.index
 
   abbrev pub told_cell : Told T → TableId
   told_cell t = t.place.table_id

@@ -1,7 +1,7 @@
 //! What a viewer does.
 ghost use Rattle.std.specs.Prelude.{◌≡◌, ◌<◌, Some, IfOk, IfErr};
 ghost use Rattle.swap_cell.specs.Steps.{IsAt, IsFree, StaysKnown};
-ghost use Rattle.swap_cell.specs.Cells.{HasLooked, HasLearnt, viewer_cell, told_cell, known};
+ghost use Rattle.swap_cell.specs.Cells.{HasLooked, HasLearnt, viewer_cell, viewer_slot, told_cell, known};
 
 use crate::board::{Board, Item, Place, STRIDE};
 use crate::handles::{Told, Viewer};
@@ -42,6 +42,7 @@ impl<T: Grows + Drop> Viewer<T> {
     /// the value is the last one that the viewer found or learnt.
     pub fn look(&mut self) -> Result<T, Memory>
         ensures cell { viewer_cell self.new ≡ viewer_cell self.old }
+        ensures slot { viewer_slot self.new ≡ viewer_slot self.old }
         ensures looked { IfOk result (HasLooked T.extends self.old self.new) }
         ensures memory { IfErr result (λ _. known self.new ≡ known self.old) }
     {
@@ -60,6 +61,7 @@ impl<T: Grows + Drop> Viewer<T> {
     pub fn learn(&mut self, told: Told<T>)
         requires cell { told_cell told ≡ viewer_cell self.old }
         ensures cell { viewer_cell self.new ≡ viewer_cell self.old }
+        ensures slot { viewer_slot self.new ≡ viewer_slot self.old }
         ensures learnt { HasLearnt told self.old self.new }
     {
         let Told {

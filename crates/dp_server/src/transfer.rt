@@ -42,7 +42,8 @@ impl From<AllocError> for ReadRefused {
     }
 }
 
-/// Reads to the end of input, or to one byte more than a list may have.
+/// Reads to the end of input, or to one byte more than a list may have. So much is no list, and is
+/// refused by who reads the records.
 pub fn read_input<I: Source>(alloc: Global, input: &mut I) -> Result<Vec<u8>, ReadRefused>
     ensures value { IfOk result (λ bytes.
         TakesFront (MAX_INPUT + 1) (I.left input.old) (I.left input.new) bytes.items) }

@@ -12,7 +12,7 @@ use Rattle.ring_world.specs.declared.step.Step.TheVariants.{Want, Take, Busy, Gi
 use Rattle.ring_world.specs.Course.{Course, stepped, led, closed, IsFront, IsCut, holds}
 use Rattle.ring_world.specs.Lists.{longer}
 use Rattle.ring_world.specs.Flight.{Refusal, StoreFault, Shorter, Behind, Forked, Memory, Sight, sight_steps, Plain, Keyed, Filled, Shrunk, NoRead, ShortRead, NoDraw, NoKeyDraw, NoAppend, ShortAppend, Flown, Broken, whole, cut, FlightGives}
-use Rattle.ring_world.specs.Path.{Call, target, is_enough_for, is_enough, base, Sees, Turn, Rests, Parts, Flies, Path, AtOnce, Stale, Alone, Turned, AloneFailed, AloneShort, Apart, turn_course, path_course, TurnGives, PathGives, went, stopped, answered, answer_steps, own_after, CallPath, complete, cut_off}
+use Rattle.ring_world.specs.Path.{Call, target, is_enough_for, is_enough, base, Sees, Turn, Rests, Parts, Flies, Path, AtOnce, Stale, Alone, Turned, AloneFailed, AloneShort, Apart, turn_course, path_course, TurnGives, turned, turn_stopped, PathGives, went, stopped, answered, answer_steps, own_after, CallPath, complete, cut_off}
 use Rattle.dp_node.specs.Gather.{Reads}
 use Rattle.dp_node.specs.Calls.{is_private, private_step}
 use Rattle.dp_node.proofs.Books.{IsFrontOf-refl}
@@ -90,8 +90,8 @@ want_front s n w rest e p q = record {
 
 module _ (c : Call) where
   turn_want : (n : ℕ) (s : Sight) (b : Bool) → n ≡ s.want → Sees c s → is_enough c s ≡ b → TurnGives c (Err Memory) (stepped (Want n ∷ []))
-  turn_want n s true e sees h = cut (Rests s) (sees, h) refl (want_front s n (turn_course c (Rests s)) _ e refl refl)
-  turn_want n s false e sees h = cut (Flies s (Broken NoRead)) (sees, h, tt) refl (want_front s n (turn_course c (Flies s (Broken NoRead))) _ e refl refl)
+  turn_want n s true e sees h = turn_stopped (Rests s) (sees, h) refl (want_front s n (turn_course c (Rests s)) _ e refl refl)
+  turn_want n s false e sees h = turn_stopped (Flies s (Broken NoRead)) (sees, h, tt) refl (want_front s n (turn_course c (Flies s (Broken NoRead))) _ e refl refl)
 
   -- no memory was found for the look
   pub turn_none : (n : ℕ) → IfSome c.single (λ one. n ≡ one.want) → TurnGives c (Err Memory) (stepped (Want n ∷ []))
@@ -107,32 +107,32 @@ module _ (c : Call) where
   path_none n h = let s = some_sight n c.single h in path_want n s.0 (is_enough c s.0) s.2 s.1 refl
 
 module _ (c : Call) (t : Sight) (sees : Sees c t) where
-  pub turn_flies : (r : Result RingOf Refusal) → is_enough c t ≡ false → (d : Course) → FlightGives c.terms (base c t) t r d → TurnGives c r (led (sight_steps t) d)
-  turn_flies r n d (whole x is e q) = whole (Flies t x) (sees, n, is) e (ap (led (sight_steps t)) q)
-  turn_flies r n d (cut x is e f) = cut (Flies t x) (sees, n, is) e (front_led (sight_steps t) d _ f)
+  pub turn_flies : (r : Result RingOf Refusal) → Agree c.own t.ring.list → is_enough c t ≡ false → (d : Course) → FlightGives c.terms (base c t) t r d → TurnGives c r (led (sight_steps t) d)
+  turn_flies r line n d (whole x is e q) = turned (Flies t x) (sees, n, is) line e (ap (led (sight_steps t)) q)
+  turn_flies r line n d (cut x is e f) = turn_stopped (Flies t x) (sees, n, is) e (front_led (sight_steps t) d _ f)
 
-  pub turn_rests : is_enough c t ≡ true → TurnGives c (Ok t.ring) (stepped (sight_steps t))
-  turn_rests e = whole (Rests t) (sees, e) refl refl
+  pub turn_rests : Agree c.own t.ring.list → is_enough c t ≡ true → TurnGives c (Ok t.ring) (stepped (sight_steps t))
+  turn_rests line e = turned (Rests t) (sees, e) line refl refl
 
   pub turn_apart : (at : ℕ) (left right : List Element) → IsFirstDifference c.own t.ring.list at → left ≡ c.own → right ≡ t.ring.list → TurnGives c (Err (Forked at left right)) (stepped (sight_steps t))
-  turn_apart at left right f l r = rw (l, r) (whole (Parts t at) (sees, f) refl refl)
+  turn_apart at left right f l r = rw (l, r) (turned (Parts t at) (sees, f) tt refl refl)
 
   pub turn_apart_lost : (at : ℕ) → IsFirstDifference c.own t.ring.list at → TurnGives c (Err Memory) (stepped (sight_steps t))
-  turn_apart_lost at f = cut (Parts t at) (sees, f) refl (front_whole (stepped (sight_steps t)) (omega arith))
+  turn_apart_lost at f = turn_stopped (Parts t at) (sees, f) refl (front_whole (stepped (sight_steps t)) (omega arith))
 
   pub path_apart : (at : ℕ) (left right : List Element) → IsFirstDifference c.own t.ring.list at → left ≡ c.own → right ≡ t.ring.list → PathGives c (Err (Forked at left right)) (stepped (sight_steps t))
-  path_apart at left right f l r = rw (l, r) (went (Apart t at) (sees, f) refl refl)
+  path_apart at left right f l r = rw (l, r) (went (Apart t at) (sees, f) tt refl refl)
 
   pub path_apart_lost : (at : ℕ) → IsFirstDifference c.own t.ring.list at → PathGives c (Err Memory) (stepped (sight_steps t))
   path_apart_lost at f = stopped (Apart t at) (sees, f) refl (free_cut (stepped (sight_steps t)) _ refl (front_whole (stepped (sight_steps t)) (omega arith)))
 
-  pub path_at_once : is_enough c t ≡ true → PathGives c (Ok t.ring) (stepped (sight_steps t))
-  path_at_once e = went (AtOnce t) (sees, e) refl refl
+  pub path_at_once : Agree c.own t.ring.list → is_enough c t ≡ true → PathGives c (Ok t.ring) (stepped (sight_steps t))
+  path_at_once line e = went (AtOnce t) (sees, e) line refl refl
 
-module _ (c : Call) (s : Sight) (sees : Sees c s) (n : is_enough c s ≡ false) where
+module _ (c : Call) (s : Sight) (sees : Sees c s) (line : Agree c.own s.ring.list) (n : is_enough c s ≡ false) where
   pub path_turned : (r : Result RingOf Refusal) (d : Course) → TurnGives c r d → PathGives c r (led (sight_steps s ++ Take ∷ []) (closed d (Give ∷ [])))
-  path_turned r d (whole x is e q) = went (Turned s x) (sees, n, is) e (ap (λ (y : Course). led (sight_steps s ++ Take ∷ []) (closed y (Give ∷ []))) q)
-  path_turned r d (cut x is e f) =
+  path_turned r d (turned x is l e q) = went (Turned s x) (sees, n, is) (line, l) e (ap (λ (y : Course). led (sight_steps s ++ Take ∷ []) (closed y (Give ∷ []))) q)
+  path_turned r d (turn_stopped x is e f) =
       let held : holds true d.steps ≡ true = held_behind d.steps (all_leave-front d.steps f.steps.0 (sym (ap all_leave f.steps.1) ∙ turn_leaves c x)) in
       stopped (Turned s x) (sees, n, is) e (record {
         front = led (sight_steps s ++ Take ∷ []) d;
@@ -142,10 +142,10 @@ module _ (c : Call) (s : Sight) (sees : Sees c s) (n : is_enough c s ≡ false) 
 
   module _ (busy : c.single ≡ None) (h : ℕ) where
     pub path_stale : target c ≤ length s.ring.list → PathGives c (Ok s.ring) (stepped (sight_steps s ++ Busy h ∷ []))
-    path_stale l = went (Stale s h) (sees, busy, n, l) refl refl
+    path_stale l = went (Stale s h) (sees, busy, n, l) line refl refl
 
     pub path_alone : (es : List Element) → length s.ring.list < target c → (d : Course) → Reads true c.terms.told (base c s) (Ok es) d → PathGives c (Ok (ring_of es c.terms.now 0)) (led (sight_steps s ++ Busy h ∷ []) d)
-    path_alone es l d p = went (Alone s h es) (sees, busy, l, p.0) refl (ap (led (sight_steps s ++ Busy h ∷ [])) p.1)
+    path_alone es l d p = went (Alone s h es) (sees, busy, l, p.0) line refl (ap (led (sight_steps s ++ Busy h ∷ [])) p.1)
 
     -- no memory was found for the ring
     pub path_alone_lost : (es : List Element) → length s.ring.list < target c → (d : Course) → Reads true c.terms.told (base c s) (Ok es) d → PathGives c (Err Memory) (led (sight_steps s ++ Busy h ∷ []) d)
@@ -154,8 +154,8 @@ module _ (c : Call) (s : Sight) (sees : Sees c s) (n : is_enough c s ≡ false) 
         rw p.1 (stopped (Alone s h es) (sees, busy, l, p.0) refl (free_cut w w refl (front_whole w (omega arith))))
 
     pub path_alone_refused : (why : Refusal) → length s.ring.list < target c → (d : Course) → Reads true c.terms.told (base c s) (Err why) d → PathGives c (Err why) (led (sight_steps s ++ Busy h ∷ []) d)
-    path_alone_refused StoreFault l d p = went (AloneFailed s h) (sees, busy, l) refl (ap (led (sight_steps s ++ Busy h ∷ [])) p)
-    path_alone_refused (Shorter had got) l d p = went (AloneShort s h had got) (sees, busy, l, p.0, p.1) refl (ap (led (sight_steps s ++ Busy h ∷ [])) p.2)
+    path_alone_refused StoreFault l d p = went (AloneFailed s h) (sees, busy, l) line refl (ap (led (sight_steps s ++ Busy h ∷ [])) p)
+    path_alone_refused (Shorter had got) l d p = went (AloneShort s h had got) (sees, busy, l, p.0, p.1) line refl (ap (led (sight_steps s ++ Busy h ∷ [])) p.2)
     path_alone_refused Memory l d (inl p) =
         let w = record (stepped (sight_steps s ++ Busy h ∷ [])) { unnoted = 1 } in
         rw p (stopped (AloneFailed s h) (sees, busy, l) refl (free_cut w (path_course c (AloneFailed s h)) refl (front_unnoted w (sight_steps s ++ Busy h ∷ []) (ReadFailed ∷ []) [] None 0 refl)))
@@ -164,18 +164,18 @@ module _ (c : Call) (s : Sight) (sees : Sees c s) (n : is_enough c s ≡ false) 
 
 module _ (c : Call) where
   pub call_answered : (r : RingOf) (d : Course) → PathGives c (Ok r) d → CallPath c (answered c.need (Ok r)) r.list (closed d (Answer ∷ []))
-  call_answered r d (went p is e q) =
-      complete p is (ap (answered c.need) e) (sym (ap (own_after c.own) e)) (ap (λ (y : Course). closed y (Answer ∷ [])) q ∙ ap (λ (z : Result RingOf Refusal). closed (path_course c p) (answer_steps z)) (sym e))
+  call_answered r d (went p is l e q) =
+      complete p is l (ap (answered c.need) e) (sym (ap (own_after c.own) e)) (ap (λ (y : Course). closed y (Answer ∷ [])) q ∙ ap (λ (z : Result RingOf Refusal). closed (path_course c p) (answer_steps z)) (sym e))
   call_answered r d (stopped p is e g) = cc
 
   pub call_refused : (why : Refusal) (d : Course) → PathGives c (Err why) d → CallPath c (Err why) c.own d
-  call_refused why d (went p is e q) =
-      complete p is (ap (answered c.need) e) (sym (ap (own_after c.own) e))
+  call_refused why d (went p is l e q) =
+      complete p is l (ap (answered c.need) e) (sym (ap (own_after c.own) e))
       (q ∙ ap (λ (z : List Step). record (path_course c p) { steps = z }) (sym (append-nil (path_course c p).steps)) ∙ ap (λ (z : Result RingOf Refusal). closed (path_course c p) (answer_steps z)) (sym e))
   call_refused why d (stopped p is e g) = cut_off p is e refl g
 
   pub call_lost : (r : RingOf) (d : Course) → PathGives c (Ok r) d → CallPath c (Err Memory) c.own d
-  call_lost r d (went p is e q) =
+  call_lost r d (went p is l e q) =
       rw q (cut_off p is refl refl (free_cut (path_course c p) (path_course c p) (path_free c p) (front_whole (path_course c p) (omega (arith, path_noted c p)))))
   call_lost r d (stopped p is e g) = cc
 

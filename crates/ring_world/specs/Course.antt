@@ -1,5 +1,5 @@
 -- What a part of a call did: its steps, the bytes that it drew, the ring that it published.
-use Rattle.std.specs.Prelude.{◌≡◌, ℕ, ◌+◌, ◌≤◌, Bool, true, false, ◌||◌, if◌then◌else◌, List, [], ◌∷◌, ◌++◌, Option, Some, None, ◌⊎◌}
+use Rattle.std.specs.Prelude.{◌≡◌, ℕ, ◌+◌, ◌≤◌, Bool, true, false, ◌||◌, if◌then◌else◌, List, [], ◌∷◌, ◌++◌, Option, None, ◌⊎◌}
 use Rattle.std.specs.Option.{option_or}
 use Rattle.key_ring.specs.Ring.{RingOf}
 use Rattle.ring_world.specs.declared.step.Step.{Step}

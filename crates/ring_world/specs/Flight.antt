@@ -14,7 +14,7 @@ use Rattle.key_ring.specs.Ring.{RingOf, ring_of, extended, policy_at, preferred_
 use Rattle.repo_keeper.specs.Made.{key_of_draw}
 use Rattle.ring_world.specs.declared.step.Step.{Step}
 use Rattle.ring_world.specs.declared.step.Step.TheVariants.{Want, Look, Read, ReadFailed, WentBack, Drawn, DrawFailed, Appended, AppendFull, AppendFailed, Publish, Extend}
-use Rattle.ring_world.specs.Course.{Course, idle, closed, IsFront}
+use Rattle.ring_world.specs.Course.{Course, idle, IsFront}
 use Rattle.ring_world.specs.Lists.{IsReadFrom, IsReadUpTo, IsGrown}
 
 -- why a call isn't answered by a ring or a place

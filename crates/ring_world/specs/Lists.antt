@@ -1,6 +1,6 @@
 -- What reads and appends give of a list that grows. Where a repository tells its list, told is that
 -- list at the end of the call.
-use Rattle.std.specs.Prelude.{◌≡◌, ℕ, ◌≤◌, nat_le, if◌then◌else◌, List, [], ◌∷◌, ◌++◌, length, drop, take, Option, IfSome}
+use Rattle.std.specs.Prelude.{◌≡◌, ◌≤◌, nat_le, if◌then◌else◌, List, [], ◌∷◌, ◌++◌, length, drop, take, Option, IfSome}
 use Rattle.key_elements.specs.declared.element.Element.{Element}
 use Rattle.key_elements.specs.Lists.{Extends}
 

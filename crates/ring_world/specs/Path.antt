@@ -1,14 +1,14 @@
 -- The lawful paths of a call that needs a ring: a pass that has seen the list own asks at a moment
 -- for a ring with at least need elements.
-use Rattle.std.specs.Prelude.{◌≡◌, ℕ, ◌<◌, ◌≤◌, Bool, true, false, ◌&&◌, nat_le, max, is_none, List, [], ◌∷◌, ◌++◌, length, Option, Some, None, Result, Ok, Err, IfSome, if◌then◌else◌}
+use Rattle.std.specs.Prelude.{◌≡◌, ℕ, ◌<◌, ◌≤◌, Bool, true, false, ◌&&◌, nat_le, max, is_none, List, [], ◌∷◌, ◌++◌, length, Option, None, Result, Ok, Err, IfSome, if◌then◌else◌}
 use Rattle.key_elements.specs.declared.element.Element.{Element}
-use Rattle.key_elements.specs.Lists.{IsFirstDifference}
+use Rattle.key_elements.specs.Lists.{Agree, IsFirstDifference}
 use Rattle.key_ring.specs.Ring.{RingOf, ring_of, due}
 use Rattle.ring_world.specs.declared.step.Step.{Step}
 use Rattle.ring_world.specs.declared.step.Step.TheVariants.{Take, Busy, Give, PrivateRead, ReadFailed, WentBack, Answer}
-use Rattle.ring_world.specs.Course.{Course, stepped, led, closed, IsCut}
+use Rattle.ring_world.specs.Course.{Course, stepped, led, closed, IsFront, IsCut}
 use Rattle.ring_world.specs.Lists.{longer, IsReadFrom}
-use Rattle.ring_world.specs.Flight.{Refusal, StoreFault, Shorter, Behind, Forked, Memory, Sight, sight_steps, Terms, Flight, IsFlight, gather_end, flight_course, Gives}
+use Rattle.ring_world.specs.Flight.{Refusal, StoreFault, Shorter, Behind, Forked, Memory, Sight, sight_steps, Terms, Flight, IsFlight, gather_end, flight_course}
 
 -- what a call is asked, by which pass
 pub record Call : Type 0 where
@@ -75,6 +75,22 @@ IsPath c (AloneShort s h had got) =
     Sees c s × (c.single ≡ None) × (length s.ring.list < target c) × (had ≡ length (base c s)) × (got < had)
 IsPath c (Apart s at) = Sees c s × IsFirstDifference c.own s.ring.list at
 
+-- each ring that was looked at agrees with the list seen as far as both reach, but for the one that
+-- is told as a fork
+abbrev pub InLineTurn : Call → Turn → Type 0
+InLineTurn c (Rests t) = Agree c.own t.ring.list
+InLineTurn c (Parts t at) = Unit {0}
+InLineTurn c (Flies t x) = Agree c.own t.ring.list
+
+abbrev pub InLine : Call → Path → Type 0
+InLine c (AtOnce s) = Agree c.own s.ring.list
+InLine c (Stale s h) = Agree c.own s.ring.list
+InLine c (Alone s h es) = Agree c.own s.ring.list
+InLine c (Turned s t) = Agree c.own s.ring.list × InLineTurn c t
+InLine c (AloneFailed s h) = Agree c.own s.ring.list
+InLine c (AloneShort s h had got) = Agree c.own s.ring.list
+InLine c (Apart s at) = Unit {0}
+
 abbrev pub turn_course : Call → Turn → Course
 turn_course c (Rests t) = stepped (sight_steps t)
 turn_course c (Parts t at) = stepped (sight_steps t)
@@ -104,13 +120,16 @@ path_end c (AloneFailed s h) = Err StoreFault
 path_end c (AloneShort s h had got) = Err (Shorter had got)
 path_end c (Apart s at) = Err (Forked at c.own s.ring.list)
 
-abbrev pub TurnGives : Call → Result RingOf Refusal → Course → Type 0
-TurnGives c = Gives (IsTurn c) (turn_end c) (turn_course c)
+-- the course of what the holder does, which comes to the ring or the refusal; or, for want of memory,
+-- a front of one
+pub data TurnGives (c : Call) (result : Result RingOf Refusal) (d : Course) : Type 0 where
+  turned : (x : Turn) → IsTurn c x → InLineTurn c x → turn_end c x ≡ result → d ≡ turn_course c x → TurnGives c result d
+  turn_stopped : (x : Turn) → IsTurn c x → result ≡ Err Memory → IsFront d (turn_course c x) → TurnGives c result d
 
 -- the course of a lawful path that comes to the ring or the refusal; or, for want of memory, a front
 -- of one, and Give where the turn is held
 pub data PathGives (c : Call) (result : Result RingOf Refusal) (d : Course) : Type 0 where
-  went : (p : Path) → IsPath c p → path_end c p ≡ result → d ≡ path_course c p → PathGives c result d
+  went : (p : Path) → IsPath c p → InLine c p → path_end c p ≡ result → d ≡ path_course c p → PathGives c result d
   stopped : (p : Path) → IsPath c p → result ≡ Err Memory → IsCut d (path_course c p) → PathGives c result d
 
 -- by a ring that is long enough the call is answered
@@ -131,5 +150,5 @@ own_after own (Err why) = own
 -- the steps of a call are those of a lawful path, and the answer and the list seen afterwards are
 -- those to which it comes; or, for want of memory, it was cut off
 pub data CallPath (c : Call) (result : Result RingOf Refusal) (own : List Element) (d : Course) : Type 0 where
-  complete : (p : Path) → IsPath c p → answered c.need (path_end c p) ≡ result → own ≡ own_after c.own (path_end c p) → d ≡ closed (path_course c p) (answer_steps (path_end c p)) → CallPath c result own d
+  complete : (p : Path) → IsPath c p → InLine c p → answered c.need (path_end c p) ≡ result → own ≡ own_after c.own (path_end c p) → d ≡ closed (path_course c p) (answer_steps (path_end c p)) → CallPath c result own d
   cut_off : (p : Path) → IsPath c p → result ≡ Err Memory → own ≡ c.own → IsCut d (path_course c p) → CallPath c result own d

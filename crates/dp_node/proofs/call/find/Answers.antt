@@ -25,7 +25,7 @@ returns-then-is_enough-clause-did g c =
     let s = sight_of c.in_ok-sight.sight in
     let x = call c.args.at (g.H.HostView.state c.args.host.now) (g.R.Repo.store c.args.repo.now).list in
     let e = subst (λ n. is_enough_for c.args.at.now n s ≡ true) c.requires.target (sym c.is_enough.ensures ∙ c.if-is_enough.true) in
-    exactly _ (did_sight _ _ _ _ _ _ s c.in_ok-sight.ensures.steps c.in_ok-sight.ensures.shows.0 c.in_ok-sight.ensures.host) (path_at_once x s c.in_ok-sight.ensures.shows.1 e)
+    exactly _ (did_sight _ _ _ _ _ _ s c.in_ok-sight.ensures.steps c.in_ok-sight.ensures.shows.0 c.in_ok-sight.ensures.host) (path_at_once x s c.in_ok-sight.ensures.shows.1 c.in_ok-sight.ensures.in_line e)
 
 pub returns-then-is_enough-clause-extends : goal.returns-then-is_enough-clause-extends
 returns-then-is_enough-clause-extends g c =
@@ -42,7 +42,7 @@ returns-then-target-len-clause-did g c =
     let x = call c.args.at h (g.R.Repo.store c.args.repo.now).list in
     let busy = sym (ap (λ (z : HostState). z.single) c.in_ok-sight.ensures.host) ∙ c.in-Err.ensures.0 in
     let r = recorded-joined (stepped (sight_steps s)) (stepped (Busy c.in-Err.busy.holder ∷ [])) _ _ _ (did_sight _ _ _ _ (g.R.Repo.store c.args.repo.now) (g.D.Draw.draws c.args.draw.now) s c.in_ok-sight.ensures.steps c.in_ok-sight.ensures.shows.0 c.in_ok-sight.ensures.host) (did_busy _ _ _ _ _ _ c.in-Err.busy.holder c.push.ensures c.in-Err.ensures.1) in
-    exactly _ r (path_stale x s c.in_ok-sight.ensures.shows.1 e busy c.in-Err.busy.holder (subst (λ n. n ≤ length s.ring.list) c.requires.target l))
+    exactly _ r (path_stale x s c.in_ok-sight.ensures.shows.1 c.in_ok-sight.ensures.in_line e busy c.in-Err.busy.holder (subst (λ n. n ≤ length s.ring.list) c.requires.target l))
 
 pub returns-then-target-len-clause-extends : goal.returns-then-target-len-clause-extends
 returns-then-target-len-clause-extends g c =
@@ -63,7 +63,7 @@ returns-in_err-list-in-Err-clause-did g c =
     let r = recorded-joined (stepped (sight_steps s)) (stepped (Busy c.in-Err.busy.holder ∷ [])) _ _ _ (did_sight _ _ _ _ (g.R.Repo.store c.args.repo.now) (g.D.Draw.draws c.args.draw.now) s c.in_ok-sight.ensures.steps c.in_ok-sight.ensures.shows.0 c.in_ok-sight.ensures.host) (did_busy _ _ _ _ _ _ c.in-Err.busy.holder c.push.ensures c.in-Err.ensures.1) in
     let b : c.longer-base.result.now ≡ longer h.own s.ring.list = c.longer-base.ensures ∙ ap (λ (o : List Element). longer o c.list-in-Err.result.now) (c.own.ensures ∙ own) ∙ ap (λ (y : List Element). longer h.own y) c.list-in-Err.ensures in
     let d = rw b at (c.in_err-list-in-Err.ensures.did (g.H.HostView.state c.try_take.new.self) (g.D.Draw.draws c.args.draw.now)) in
-    rw (p.1, p.2) (after _ r d (path_alone_refused x s c.in_ok-sight.ensures.shows.1 e busy c.in-Err.busy.holder (refusal c.in_err-list-in-Err.field-0.0) (subst (λ n. length s.ring.list < n) c.requires.target l)))
+    rw (p.1, p.2) (after _ r d (path_alone_refused x s c.in_ok-sight.ensures.shows.1 c.in_ok-sight.ensures.in_line e busy c.in-Err.busy.holder (refusal c.in_err-list-in-Err.field-0.0) (subst (λ n. length s.ring.list < n) c.requires.target l)))
 
 pub returns-in_err-of-in-Err-clause-did : goal.returns-in_err-of-in-Err-clause-did
 returns-in_err-of-in-Err-clause-did g c =
@@ -78,7 +78,7 @@ returns-in_err-of-in-Err-clause-did g c =
     let r = recorded-joined (stepped (sight_steps s)) (stepped (Busy c.in-Err.busy.holder ∷ [])) _ _ _ (did_sight _ _ _ _ (g.R.Repo.store c.args.repo.now) (g.D.Draw.draws c.args.draw.now) s c.in_ok-sight.ensures.steps c.in_ok-sight.ensures.shows.0 c.in_ok-sight.ensures.host) (did_busy _ _ _ _ _ _ c.in-Err.busy.holder c.push.ensures c.in-Err.ensures.1) in
     let b : c.longer-base.result.now ≡ longer h.own s.ring.list = c.longer-base.ensures ∙ ap (λ (o : List Element). longer o c.list-in-Err.result.now) (c.own.ensures ∙ own) ∙ ap (λ (y : List Element). longer h.own y) c.list-in-Err.ensures in
     let d = rw b at (c.in_ok-list-in-Err.ensures.did (g.H.HostView.state c.try_take.new.self) (g.D.Draw.draws c.args.draw.now)) in
-    rw (p.1, p.2) (after _ r d (path_alone_lost x s c.in_ok-sight.ensures.shows.1 e busy c.in-Err.busy.holder c.in_ok-list-in-Err.list (subst (λ n. length s.ring.list < n) c.requires.target l)))
+    rw (p.1, p.2) (after _ r d (path_alone_lost x s c.in_ok-sight.ensures.shows.1 c.in_ok-sight.ensures.in_line e busy c.in-Err.busy.holder c.in_ok-list-in-Err.list (subst (λ n. length s.ring.list < n) c.requires.target l)))
 
 pub returns-in-Err-clause-did : goal.returns-in-Err-clause-did
 returns-in-Err-clause-did g c =
@@ -92,7 +92,7 @@ returns-in-Err-clause-did g c =
     let r = recorded-joined (stepped (sight_steps s)) (stepped (Busy c.in-Err.busy.holder ∷ [])) _ _ _ (did_sight _ _ _ _ (g.R.Repo.store c.args.repo.now) (g.D.Draw.draws c.args.draw.now) s c.in_ok-sight.ensures.steps c.in_ok-sight.ensures.shows.0 c.in_ok-sight.ensures.host) (did_busy _ _ _ _ _ _ c.in-Err.busy.holder c.push.ensures c.in-Err.ensures.1) in
     let b : c.longer-base.result.now ≡ longer h.own s.ring.list = c.longer-base.ensures ∙ ap (λ (o : List Element). longer o c.list-in-Err.result.now) (c.own.ensures ∙ own) ∙ ap (λ (y : List Element). longer h.own y) c.list-in-Err.ensures in
     let d = rw b at (c.in_ok-list-in-Err.ensures.did (g.H.HostView.state c.try_take.new.self) (g.D.Draw.draws c.args.draw.now)) in
-    rw c.in_ok-of-in-Err.ensures (after _ r d (path_alone x s c.in_ok-sight.ensures.shows.1 e busy c.in-Err.busy.holder c.in_ok-list-in-Err.list (subst (λ n. length s.ring.list < n) c.requires.target l)))
+    rw c.in_ok-of-in-Err.ensures (after _ r d (path_alone x s c.in_ok-sight.ensures.shows.1 c.in_ok-sight.ensures.in_line e busy c.in-Err.busy.holder c.in_ok-list-in-Err.list (subst (λ n. length s.ring.list < n) c.requires.target l)))
 
 pub returns-in-Err-clause-extends : goal.returns-in-Err-clause-extends
 returns-in-Err-clause-extends g c =
@@ -119,4 +119,4 @@ returns-clause-did g c =
     let result = seen c.under_turn-found.result in
     let host = c.in-Ok.ensures.2 ∙ ap (taken c.in-Ok.ensures.0) c.in_ok-sight.ensures.host in
     after _ r (before {R = λ y. PathGives x result (led (sight_steps s ++ Take ∷ []) y)} (Give ∷ []) c.under_turn-found.ensures.did (did_give _ _ _ _ _ _ c.push-in-Ok-2.ensures c.give.ensures)
-    (λ y p. path_turned x s c.in_ok-sight.ensures.shows.1 e result y (subst (λ (z : HostState). TurnGives (call c.args.at z told) result y) host p))) (λ y p. p)
+    (λ y p. path_turned x s c.in_ok-sight.ensures.shows.1 c.in_ok-sight.ensures.in_line e result y (subst (λ (z : HostState). TurnGives (call c.args.at z told) result y) host p))) (λ y p. p)

@@ -22,7 +22,7 @@ returns-then-is_enough-clause-did g c =
     let s = sight_of c.in_ok-sight.sight in
     let x = call c.args.at (g.H.HostView.state c.args.host.now) (g.R.Repo.store c.args.repo.now).list in
     let e = subst (λ n. is_enough_for c.args.at.now n s ≡ true) c.requires.target (sym c.is_enough.ensures ∙ c.if-is_enough.true) in
-    exactly _ (did_sight _ _ _ _ _ _ s c.in_ok-sight.ensures.steps c.in_ok-sight.ensures.shows.0 c.in_ok-sight.ensures.host) (turn_rests x s c.in_ok-sight.ensures.shows.1 e)
+    exactly _ (did_sight _ _ _ _ _ _ s c.in_ok-sight.ensures.steps c.in_ok-sight.ensures.shows.0 c.in_ok-sight.ensures.host) (turn_rests x s c.in_ok-sight.ensures.shows.1 c.in_ok-sight.ensures.in_line e)
 
 pub returns-then-is_enough-clause-extends : goal.returns-then-is_enough-clause-extends
 returns-then-is_enough-clause-extends g c =
@@ -39,4 +39,4 @@ returns-clause-did g c =
     let x = call c.args.at h told in
     let r = seen c.flight.result in
     after (sight_steps s) (did_sight _ _ _ _ _ _ s c.in_ok-sight.ensures.steps c.in_ok-sight.ensures.shows.0 c.in_ok-sight.ensures.host) c.flight.ensures.did
-    (λ d p. turn_flies x s c.in_ok-sight.ensures.shows.1 r e d (subst (λ (z : HostState). FlightGives (call c.args.at z told).terms (longer z.own s.ring.list) s r d) c.in_ok-sight.ensures.host p))
+    (λ d p. turn_flies x s c.in_ok-sight.ensures.shows.1 r c.in_ok-sight.ensures.in_line e d (subst (λ (z : HostState). FlightGives (call c.args.at z told).terms (longer z.own s.ring.list) s r d) c.in_ok-sight.ensures.host p))

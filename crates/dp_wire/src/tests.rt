@@ -1,5 +1,9 @@
+ghost use Rattle.std.specs.Prelude.{◌<◌, ◌^◌, length};
+ghost use Rattle.dp_wire.specs.Replies.{reply_body};
+
 use super::*;
 use dp_base::KeyId;
+use std::alloc::Global;
 use std::test::Fail;
 
 // docs/FORMATS.md, "Frames and requests".
@@ -72,33 +76,46 @@ fn wrong_places(rt: HostRuntime) {
     }
 }
 
+// The frame of a reply.
+fn framed(alloc: Global, reply: &Reply<'_>) -> Result<Vec<u8>, Fail>
+    requires { length (reply_body reply.now) < 2 ^ 32 }
+{
+    let mut out = Vec::new(alloc);
+    put_reply(alloc, reply, &mut out)?;
+    Ok(out)
+}
+
 // docs/FORMATS.md, "Replies".
 #[test]
+#[tactic(auto, unfolding(crate::specs::Replies::reply_body))]
 fn replies(rt: HostRuntime) -> Result<(), Fail> {
     let alloc = rt.alloc();
+    let behind = framed(alloc, &Reply::Behind { have: 1, need: 9 })?;
+    let wanted = [
+        0, 0, 0, 0x11, 6, 0, 0, 0, 0, 0, 0, 0, 1, 0, 0, 0, 0, 0, 0, 0, 9,
+    ];
+    assert_eq!(rt; behind.as_slice(), wanted.as_slice());
+    let full = framed(alloc, &Reply::Full { count: 16_384 })?;
+    let wanted = [0, 0, 0, 9, 8, 0, 0, 0, 0, 0, 0, 0x40, 0];
+    assert_eq!(rt; full.as_slice(), wanted.as_slice());
+    let bad = framed(alloc, &Reply::BadRequest { place: 0 })?;
+    assert_eq!(rt; bad.as_slice(), [0, 0, 0, 5, 1, 0, 0, 0, 0].as_slice());
+    let dates = framed(alloc, &Reply::BadDates)?;
+    assert_eq!(rt; dates.as_slice(), [0, 0, 0, 1, 9].as_slice());
+    assert_eq!(rt; no_memory_frame(), [0, 0, 0, 1, 2]);
+    Ok(())
+}
+
+#[test]
+#[tactic(auto, unfolding(crate::specs::Replies::reply_body, dp_base::specs::Guid::guid))]
+fn rolled(rt: HostRuntime) -> Result<(), Fail> {
     let id = KeyId(0x0000_0000_0000_4000_8000_0000_0000_0000);
-    let rolled: [u8; 29] = [
+    let rolled = framed(rt.alloc(), &Reply::Rolled { front: 1, id })?;
+    let wanted = [
         0, 0, 0, 0x19, 0, 0, 0, 0, 0, 0, 0, 0, 1, 0, 0, 0, 0, 0, 0, 0, 0x40, 0x80, 0, 0, 0, 0, 0,
         0, 0,
     ];
-    let behind: [u8; 21] = [
-        0, 0, 0, 0x11, 6, 0, 0, 0, 0, 0, 0, 0, 1, 0, 0, 0, 0, 0, 0, 0, 9,
-    ];
-    let full: [u8; 13] = [0, 0, 0, 9, 8, 0, 0, 0, 0, 0, 0, 0x40, 0];
-    let table: [(Reply<'_>, &[u8]); 6] = [
-        (Reply::Rolled { front: 1, id }, &rolled),
-        (Reply::Behind { have: 1, need: 9 }, &behind),
-        (Reply::Full { count: 16_384 }, &full),
-        (Reply::BadRequest { place: 0 }, &[0, 0, 0, 5, 1, 0, 0, 0, 0]),
-        (Reply::BadDates, &[0, 0, 0, 1, 9]),
-        (Reply::NoMemory, &[0, 0, 0, 1, 2]),
-    ];
-    for (reply, frame) in table {
-        let mut out = Vec::new(alloc);
-        put_reply(alloc, &reply, &mut out)?;
-        assert_eq!(rt; out.as_slice(), frame, "{reply:?}");
-    }
-    assert_eq!(rt; no_memory_frame(), [0, 0, 0, 1, 2]);
+    assert_eq!(rt; rolled.as_slice(), wanted.as_slice());
     Ok(())
 }
 

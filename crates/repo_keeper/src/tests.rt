@@ -1,22 +1,30 @@
+ghost use Rattle.std.specs.Prelude.{IfOk};
+ghost use Rattle.key_elements.specs.Record.{IsElement};
+
 use super::*;
 use dp_base::{AesSize, Alg, KeyId, MAX_TICKS, MemDraw};
-use key_elements::{Element, ElementList, MAX_ELEMENTS, Reason};
+use key_elements::{Element, MAX_ELEMENTS, Reason, read_list};
 use std::alloc::Global;
 use std::test::Fail;
 
 // The revocation of every key that was made before the date.
-fn before(alloc: Global, date: u64) -> Result<Element, Fail> {
+fn before(alloc: Global, date: u64) -> Result<Element, Fail>
+    ensures { IfOk result IsElement }
+{
     let reason = Reason::new(alloc, "")?;
     Ok(mass_revocation(date, reason)?)
 }
 
+// The record of the revocation of every key that was made before the first moment.
+const FIRST: [u8; 10] = [3, 0, 0, 0, 0, 0, 0, 0, 0, 0];
+
 // A keeper of so many revocations, whose calls with the numbers fail.
 fn keeper(alloc: Global, len: u64, fail: &[u64]) -> Result<MemKeeper, Fail> {
-    let mut tail = Vec::new(alloc);
-    for date in 0..len {
-        tail.push(before(alloc, date)?)?;
+    let mut bytes = Vec::new(alloc);
+    for _ in 0..len {
+        bytes.extend_from_slice(&FIRST)?;
     }
-    let list = ElementList::empty().extended(alloc, tail)?;
+    let list = read_list(alloc, bytes.as_slice())?;
     Ok(MemKeeper::new(list, fail.to_vec(alloc)?))
 }
 
@@ -31,7 +39,9 @@ fn append_len(
     alloc: Global,
     known: u64,
     e: &Element,
-) -> Result<usize, RepoError> {
+) -> Result<usize, RepoError>
+    requires { IsElement e.now }
+{
     Ok(repo.append(&mut (), alloc, known, e)?.len())
 }
 

@@ -1,7 +1,7 @@
 use super::*;
 use default_key::Options;
 use dp_base::{AesSize, Alg, KeyId, MemDraw, TICKS_PER_DAY};
-use key_elements::{Element, ElementList, KeyRecord, MAX_ELEMENTS, Reason};
+use key_elements::{Element, ElementList, KeyRecord, MAX_ELEMENTS, Reason, encode, read_list};
 use repo_keeper::{MemKeeper, OwnRepo};
 use ring_world::{Step, StepList};
 use std::alloc::Global;
@@ -19,11 +19,11 @@ fn before(alloc: Global, date: u64) -> Result<Element, Fail> {
 
 // A list of revocations with these dates.
 fn list_of(alloc: Global, dates: &[u64]) -> Result<ElementList, Fail> {
-    let mut tail = Vec::new(alloc);
+    let mut bytes = Vec::new(alloc);
     for date in dates {
-        tail.push(before(alloc, *date)?)?;
+        encode(alloc, &before(alloc, *date)?, &mut bytes)?;
     }
-    Ok(ElementList::empty().extended(alloc, tail)?)
+    Ok(read_list(alloc, bytes.as_slice())?)
 }
 
 fn repo_of(alloc: Global, list: ElementList) -> OwnRepo<MemKeeper> {
@@ -186,6 +186,7 @@ fn refused(rt: HostRuntime) -> Result<(), Fail> {
         Err(NodeError::BadDates) => assert_eq!(rt; steps.as_slice().len(), 0),
         _ => return Err("equal dates".into()),
     }
+    let mut steps = StepList::with_room(alloc)?;
     match roll(
         &mut (),
         alloc,

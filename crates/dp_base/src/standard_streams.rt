@@ -42,6 +42,8 @@ impl<R: Read> Source for ReadSource<R> {
     ghost faults = { λ s. s.faults };
 
     // A read that a signal interrupted has moved nothing, and is made again.
+    // The loop is a range, since an endless one has no measure that a proof could name; nothing is
+    // interrupted as often as it turns.
     fn read(&mut self, buffer: &mut [u8]) -> Result<usize, Failed> {
         for _ in 0..u64::MAX {
             match self.reader.read(buffer) {

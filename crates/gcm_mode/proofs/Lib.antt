@@ -1,4 +1,6 @@
 pub mod Counting
 mod Facts
 pub mod Hashing
+pub mod Multiples
 pub mod Products
+pub mod Reducing

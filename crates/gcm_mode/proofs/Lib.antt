@@ -1,3 +1,4 @@
+pub mod Combing
 pub mod Counting
 mod Facts
 pub mod Hashing

@@ -20,7 +20,7 @@ fold_down-xor v w =
         xor_swap (bit_xor v (multiple 1 v)) (bit_xor w (multiple 1 w)) (multiple 2 v) (multiple 2 w))
     (xor_swap (bit_xor (bit_xor v (multiple 1 v)) (multiple 2 v)) (bit_xor (bit_xor w (multiple 1 w)) (multiple 2 w)) (multiple 7 v) (multiple 7 w))
 
-multiple-turned : (j k v : ℕ) → multiple j (multiple k v) ≡ multiple k (multiple j v)
+pub multiple-turned : (j k v : ℕ) → multiple j (multiple k v) ≡ multiple k (multiple j v)
 multiple-turned j k v =
     let turned : k + j ≡ j + k = omega arith in
     sym (multiple-add j k (k + j) v refl) ∙ multiple-add k j (k + j) v turned

@@ -1,10 +1,11 @@
 -- A product in turns of four digits: each turn goes four places on and adds a digit of each quarter,
 -- in a number of 256 bits that is reduced at the end.
-use Rattle.std.proofs.Common.{◌≡◌, ℕ, zero, suc, ◌+◌, ◌-◌, ◌*◌, ◌/◌, ◌%◌, ◌^◌, ◌<◌, ◌≤◌, bit_xor, refl, sym, ap, ◌∙◌, arith, add-zero, zero-mul, pow-add, pow_pos, mul_assoc, shr-shr, lit≤}
+use Rattle.std.proofs.Common.{◌≡◌, ℕ, zero, suc, ◌+◌, ◌-◌, ◌*◌, ◌/◌, ◌%◌, ◌^◌, ◌<◌, ◌≤◌, bit_xor, refl, sym, ap, ◌∙◌, arith, add-zero, zero-mul, le_refl, pow-add, pow_pos, mul_assoc, shr-shr, lit≤}
 use Rattle.std.specs.Int.Bits.{xor_assoc, xor_zero_l, xor_zero_r}
-use Rattle.std.proofs.lemmas.Nat.{xor_comm, xor_shr, xor_mod, shr_split, field_of, mod_low}
+use Rattle.std.proofs.lemmas.Nat.{xor_comm, xor_shr, xor_mod, shr_split, field_of, mod_low, mod-pow-add, shl-shr}
+use Rattle.gcm_mode.specs.Key.{multiple, element}
 use Rattle.gcm_mode.specs.Product.{next_multiple, sum_of_multiples, product}
-use Rattle.gcm_mode.proofs.Multiples.{xor_swap, multiple, multiple-xor, multiple-add, multiple-whole, multiple-parts, sum_of_multiples-more}
+use Rattle.gcm_mode.proofs.Multiples.{xor_swap, multiple-xor, multiple-add, multiple-whole, multiple-parts, sum_of_multiples-more}
 use Rattle.gcm_mode.proofs.Reducing.{fold_down, multiple-turned, multiple-128}
 
 -- ---- numbers whose last bits are 0
@@ -15,7 +16,15 @@ clear-whole u k m le =
     let split : u * 2 ^ k ≡ u * 2 ^ (k - m) * 2 ^ m = ap (λ (n : ℕ). u * 2 ^ n) more ∙ rw (pow-add) (sym (mul_assoc u (2 ^ (k - m)) (2 ^ m))) in
     ap (λ (n : ℕ). n % 2 ^ m) (split ∙ sym (add-zero (u * 2 ^ (k - m) * 2 ^ m))) ∙ mod_low (u * 2 ^ (k - m)) m 0 (pow_pos m)
 
-clear-less : (v k m : ℕ) → m ≤ k → v % 2 ^ k ≡ 0 → v % 2 ^ m ≡ 0
+-- what stays of 128 bits that are shifted
+pub cut : (v j k : ℕ) → k + j ≡ 128 → v * 2 ^ j % 2 ^ 128 ≡ v % 2 ^ k * 2 ^ j
+cut v j k e =
+    let field = mod-pow-add (v * 2 ^ j) k j in
+    let whole = shl-shr v j in
+    let none = clear-whole v j j (le_refl j) in
+    ap (λ (n : ℕ). v * 2 ^ j % 2 ^ n) (sym e) ∙ field ∙ rw (whole, none) (add-zero (v % 2 ^ k * 2 ^ j))
+
+pub clear-less : (v k m : ℕ) → m ≤ k → v % 2 ^ k ≡ 0 → v % 2 ^ m ≡ 0
 clear-less v k m le clear =
     let split = shr_split v k in
     let whole : v ≡ v / 2 ^ k * 2 ^ k = omega arith in
@@ -38,16 +47,15 @@ multiple-zero k = ap (multiple k) (sym (zero-mul (2 ^ k))) ∙ multiple-whole k 
 
 -- ---- 256 bits
 
--- the element of a high and a low half
-abbrev pub element : ℕ → ℕ → ℕ
-element high low = bit_xor high (multiple 128 low)
-
 -- what moves from one end of a number into the low half
 multiple-low : (j k v : ℕ) → j + k ≡ 128 → multiple 128 (v * 2 ^ j) ≡ multiple k v
 multiple-low j k v e = multiple-add k j 128 (v * 2 ^ j) (sym e) ∙ ap (multiple k) (multiple-whole j v)
 
 multiple-halves : (j k v : ℕ) → j + k ≡ 128 → bit_xor (v / 2 ^ k) (multiple 128 (v % 2 ^ k * 2 ^ j)) ≡ multiple k v
 multiple-halves j k v e = rw (multiple-low j k (v % 2 ^ k) e) (sym (multiple-parts k v))
+
+pub element-zero : element 0 0 ≡ 0
+element-zero = multiple-zero 128
 
 -- four places to the right
 element-shift : (high low : ℕ) → low % 16 ≡ 0 →
@@ -77,11 +85,15 @@ element-quarters a b c d =
     let d0 = d % 2 ^ 96 * 2 ^ 32 in
     let low : multiple 128 (quarters_low b c d) ≡ bit_xor (bit_xor (multiple 128 b0) (multiple 128 c0)) (multiple 128 d0) =
     multiple-xor 128 (bit_xor b0 c0) d0 ∙ ap (λ (n : ℕ). bit_xor n (multiple 128 d0)) (multiple-xor 128 b0 c0) in
-    rw (low,
-        xor_swap (bit_xor (bit_xor a (b / 2 ^ 32)) (c / 2 ^ 64)) (d / 2 ^ 96) (bit_xor (multiple 128 b0) (multiple 128 c0)) (multiple 128 d0),
-        xor_swap (bit_xor a (b / 2 ^ 32)) (c / 2 ^ 64) (multiple 128 b0) (multiple 128 c0),
-        xor_assoc a (b / 2 ^ 32) (multiple 128 b0),
-        multiple-halves 96 32 b refl, multiple-halves 64 64 c refl, multiple-halves 32 96 d refl) refl
+    rw (
+      low,
+      xor_swap (bit_xor (bit_xor a (b / 2 ^ 32)) (c / 2 ^ 64)) (d / 2 ^ 96) (bit_xor (multiple 128 b0) (multiple 128 c0)) (multiple 128 d0),
+      xor_swap (bit_xor a (b / 2 ^ 32)) (c / 2 ^ 64) (multiple 128 b0) (multiple 128 c0),
+      xor_assoc a (b / 2 ^ 32) (multiple 128 b0),
+      multiple-halves 96 32 b refl,
+      multiple-halves 64 64 c refl,
+      multiple-halves 32 96 d refl,
+    ) refl
 
 element-xor : (g h l m : ℕ) → element (bit_xor g h) (bit_xor l m) ≡ bit_xor (element g l) (element h m)
 element-xor g h l m = rw (multiple-xor 128 l m) (xor_swap g h (multiple 128 l) (multiple 128 m))
@@ -99,11 +111,11 @@ pub clear-turn : (high low b c d m : ℕ) → m ≤ 32 → low % 2 ^ (m + 4) ≡
     bit_xor (bit_xor (low / 16) (high % 16 * 2 ^ 124)) (quarters_low b c d) % 2 ^ m ≡ 0
 clear-turn high low b c d m le clear =
     clear-xor (bit_xor (low / 16) (high % 16 * 2 ^ 124)) (quarters_low b c d) m
-        (clear-xor (low / 16) (high % 16 * 2 ^ 124) m (clear-shifted low m clear) (clear-whole (high % 16) 124 m (omega arith)))
-        (clear-xor (bit_xor (b % 2 ^ 32 * 2 ^ 96) (c % 2 ^ 64 * 2 ^ 64)) (d % 2 ^ 96 * 2 ^ 32) m
-            (clear-xor (b % 2 ^ 32 * 2 ^ 96) (c % 2 ^ 64 * 2 ^ 64) m
-                (clear-whole (b % 2 ^ 32) 96 m (omega arith)) (clear-whole (c % 2 ^ 64) 64 m (omega arith)))
-            (clear-whole (d % 2 ^ 96) 32 m le))
+    (clear-xor (low / 16) (high % 16 * 2 ^ 124) m (clear-shifted low m clear) (clear-whole (high % 16) 124 m (omega arith)))
+    (clear-xor (bit_xor (b % 2 ^ 32 * 2 ^ 96) (c % 2 ^ 64 * 2 ^ 64)) (d % 2 ^ 96 * 2 ^ 32) m
+    (clear-xor (b % 2 ^ 32 * 2 ^ 96) (c % 2 ^ 64 * 2 ^ 64) m
+    (clear-whole (b % 2 ^ 32) 96 m (omega arith)) (clear-whole (c % 2 ^ 64) 64 m (omega arith)))
+    (clear-whole (d % 2 ^ 96) 32 m le))
 
 -- ---- the reduction
 
@@ -131,12 +143,16 @@ reduced-element high low lt clear =
     let third = xor_shr low s 2 in
     let fourth = xor_shr low s 7 in
     ap (bit_xor high) (
-        rw (second, third, fourth,
-            xor_swap low s (low / 2) (s / 2),
-            xor_swap (bit_xor low (low / 2)) (bit_xor s (s / 2)) (low / 4) (s / 4),
-            xor_swap (bit_xor (bit_xor low (low / 2)) (low / 4)) (bit_xor (bit_xor s (s / 2)) (s / 4)) (low / 128) (s / 128))
-        (xor_assoc (bit_xor (bit_xor low (low / 2)) (low / 4)) (low / 128) (bit_xor (bit_xor (bit_xor s (s / 2)) (s / 4)) (s / 128)))
-        ∙ sym whole)
+    rw (
+      second,
+      third,
+      fourth,
+      xor_swap low s (low / 2) (s / 2),
+      xor_swap (bit_xor low (low / 2)) (bit_xor s (s / 2)) (low / 4) (s / 4),
+      xor_swap (bit_xor (bit_xor low (low / 2)) (low / 4)) (bit_xor (bit_xor s (s / 2)) (s / 4)) (low / 128) (s / 128),
+    )
+    (xor_assoc (bit_xor (bit_xor low (low / 2)) (low / 4)) (low / 128) (bit_xor (bit_xor (bit_xor s (s / 2)) (s / 4)) (s / 128)))
+    ∙ sym whole)
 
 -- ---- the turns
 
@@ -144,9 +160,9 @@ reduced-element high low lt clear =
 abbrev pub combed : ℕ → ℕ → ℕ → ℕ
 combed n x v = quarters (sum_of_multiples n (x / 2 ^ 96) v) (sum_of_multiples n (x / 2 ^ 64) v) (sum_of_multiples n (x / 2 ^ 32) v) (sum_of_multiples n x v)
 
-pub combed-none : (x v : ℕ) → combed 0 x v ≡ 0
+pub combed-zero : (x v : ℕ) → combed 0 x v ≡ 0
 unfolding sum_of_multiples
-combed-none x v = rw (multiple-zero 32, multiple-zero 64, multiple-zero 96) refl
+combed-zero x v = rw (multiple-zero 32, multiple-zero 64, multiple-zero 96) refl
 
 pub combed-all : (x v : ℕ) → combed 32 x v ≡ product x v
 unfolding product
@@ -160,16 +176,24 @@ combed-all x v =
 
 multiple-quarters : (k a b c d : ℕ) → multiple k (quarters a b c d) ≡ quarters (multiple k a) (multiple k b) (multiple k c) (multiple k d)
 multiple-quarters k a b c d =
-    rw (multiple-xor k (bit_xor (bit_xor a (multiple 32 b)) (multiple 64 c)) (multiple 96 d),
-        multiple-xor k (bit_xor a (multiple 32 b)) (multiple 64 c),
-        multiple-xor k a (multiple 32 b),
-        multiple-turned k 32 b, multiple-turned k 64 c, multiple-turned k 96 d) refl
+    rw (
+      multiple-xor k (bit_xor (bit_xor a (multiple 32 b)) (multiple 64 c)) (multiple 96 d),
+      multiple-xor k (bit_xor a (multiple 32 b)) (multiple 64 c),
+      multiple-xor k a (multiple 32 b),
+      multiple-turned k 32 b,
+      multiple-turned k 64 c,
+      multiple-turned k 96 d,
+    ) refl
 
 quarters-xor : (a b c d e f g h : ℕ) → quarters (bit_xor a e) (bit_xor b f) (bit_xor c g) (bit_xor d h) ≡ bit_xor (quarters a b c d) (quarters e f g h)
 quarters-xor a b c d e f g h =
-    rw (multiple-xor 32 b f, multiple-xor 64 c g, multiple-xor 96 d h,
-        xor_swap a e (multiple 32 b) (multiple 32 f),
-        xor_swap (bit_xor a (multiple 32 b)) (bit_xor e (multiple 32 f)) (multiple 64 c) (multiple 64 g))
+    rw (
+      multiple-xor 32 b f,
+      multiple-xor 64 c g,
+      multiple-xor 96 d h,
+      xor_swap a e (multiple 32 b) (multiple 32 f),
+      xor_swap (bit_xor a (multiple 32 b)) (bit_xor e (multiple 32 f)) (multiple 64 c) (multiple 64 g),
+    )
     (xor_swap (bit_xor (bit_xor a (multiple 32 b)) (multiple 64 c)) (bit_xor (bit_xor e (multiple 32 f)) (multiple 64 g)) (multiple 96 d) (multiple 96 h))
 
 pub combed-more : (n x v : ℕ) →
@@ -179,5 +203,5 @@ combed-more n x v =
     let more = λ (q : ℕ). sum_of_multiples-more 4 n (4 + n) q v refl ∙ xor_comm (sum_of_multiples 4 (q / 2 ^ n) v) (multiple 4 (sum_of_multiples n q v)) in
     rw (more (x / 2 ^ 96), more (x / 2 ^ 64), more (x / 2 ^ 32), more x)
     (quarters-xor (multiple 4 (sum_of_multiples n (x / 2 ^ 96) v)) (multiple 4 (sum_of_multiples n (x / 2 ^ 64) v)) (multiple 4 (sum_of_multiples n (x / 2 ^ 32) v)) (multiple 4 (sum_of_multiples n x v))
-        (sum_of_multiples 4 (x / 2 ^ 96 / 2 ^ n) v) (sum_of_multiples 4 (x / 2 ^ 64 / 2 ^ n) v) (sum_of_multiples 4 (x / 2 ^ 32 / 2 ^ n) v) (sum_of_multiples 4 (x / 2 ^ n) v)
+    (sum_of_multiples 4 (x / 2 ^ 96 / 2 ^ n) v) (sum_of_multiples 4 (x / 2 ^ 64 / 2 ^ n) v) (sum_of_multiples 4 (x / 2 ^ 32 / 2 ^ n) v) (sum_of_multiples 4 (x / 2 ^ n) v)
     ∙ rw (multiple-quarters 4 (sum_of_multiples n (x / 2 ^ 96) v) (sum_of_multiples n (x / 2 ^ 64) v) (sum_of_multiples n (x / 2 ^ 32) v) (sum_of_multiples n x v)) refl)

@@ -5,3 +5,4 @@ pub mod Hashing
 pub mod Multiples
 pub mod Products
 pub mod Reducing
+pub mod Turns

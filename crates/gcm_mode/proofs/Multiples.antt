@@ -3,6 +3,7 @@
 use Rattle.std.proofs.Common.{◌≡◌, ℕ, zero, suc, ◌+◌, ◌-◌, ◌*◌, ◌/◌, ◌%◌, ◌^◌, ◌<◌, ◌≤◌, bit_xor, refl, sym, ap, ◌∙◌, arith, one-mul, zero-mul, zero-add, mul-zero, mul_assoc, pow-suc, pow_pos, mod-lt, shr-shr}
 use Rattle.std.specs.Int.Bits.{xor_assoc, xor_self, xor_zero_l, xor_zero_r, xor_shifted}
 use Rattle.std.proofs.lemmas.Nat.{xor_comm, xor_shr, xor_mod, shr_split}
+use Rattle.gcm_mode.specs.Key.{multiple}
 use Rattle.gcm_mode.specs.Product.{reduction, next_multiple, sum_of_multiples, product}
 
 -- ---- sums
@@ -55,11 +56,6 @@ next_multiple-even v =
     rw (half, last, zero-mul, xor_zero_r) refl
 
 -- ---- the multiples after it
-
--- V n of V 0
-unfoldable pub multiple : ℕ → ℕ → ℕ
-multiple zero v = v
-multiple (suc n) v = multiple n (next_multiple v)
 
 pub multiple-xor : (n v w : ℕ) → multiple n (bit_xor v w) ≡ bit_xor (multiple n v) (multiple n w)
 unfolding multiple

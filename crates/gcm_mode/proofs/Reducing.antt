@@ -4,8 +4,9 @@ use Rattle.std.proofs.Common.{◌≡◌, ℕ, zero, suc, ◌+◌, ◌-◌, ◌*�
 use Rattle.std.proofs.lemmas.Bool.{cases_lt}
 use Rattle.std.specs.Int.Bits.{xor_assoc, xor_self, xor_zero_l, xor_zero_r, xor_shifted}
 use Rattle.std.proofs.lemmas.Nat.{xor_comm, xor_shr, xor_mod, xor_lt, pow-add, shr_split}
+use Rattle.gcm_mode.specs.Key.{multiple}
 use Rattle.gcm_mode.specs.Product.{next_multiple}
-use Rattle.gcm_mode.proofs.Multiples.{xor_swap, next_multiple-xor, multiple, multiple-xor, multiple-add, multiple-whole, multiple-parts}
+use Rattle.gcm_mode.proofs.Multiples.{xor_swap, next_multiple-xor, multiple-xor, multiple-add, multiple-whole, multiple-parts}
 
 -- ---- x^128
 
@@ -15,9 +16,13 @@ fold_down v = bit_xor (bit_xor (bit_xor v (multiple 1 v)) (multiple 2 v)) (multi
 
 fold_down-xor : (v w : ℕ) → fold_down (bit_xor v w) ≡ bit_xor (fold_down v) (fold_down w)
 fold_down-xor v w =
-    rw (multiple-xor 1 v w, multiple-xor 2 v w, multiple-xor 7 v w,
-        xor_swap v w (multiple 1 v) (multiple 1 w),
-        xor_swap (bit_xor v (multiple 1 v)) (bit_xor w (multiple 1 w)) (multiple 2 v) (multiple 2 w))
+    rw (
+      multiple-xor 1 v w,
+      multiple-xor 2 v w,
+      multiple-xor 7 v w,
+      xor_swap v w (multiple 1 v) (multiple 1 w),
+      xor_swap (bit_xor v (multiple 1 v)) (bit_xor w (multiple 1 w)) (multiple 2 v) (multiple 2 w),
+    )
     (xor_swap (bit_xor (bit_xor v (multiple 1 v)) (multiple 2 v)) (bit_xor (bit_xor w (multiple 1 w)) (multiple 2 w)) (multiple 7 v) (multiple 7 w))
 
 pub multiple-turned : (j k v : ℕ) → multiple j (multiple k v) ≡ multiple k (multiple j v)
@@ -30,8 +35,8 @@ fold_down-multiple k v =
     rw (multiple-turned 1 k v, multiple-turned 2 k v, multiple-turned 7 k v)
     (sym (multiple-xor k (bit_xor (bit_xor v (multiple 1 v)) (multiple 2 v)) (multiple 7 v)
     ∙ ap (λ (n : ℕ). bit_xor n (multiple k (multiple 7 v)))
-        (multiple-xor k (bit_xor v (multiple 1 v)) (multiple 2 v)
-        ∙ ap (λ (n : ℕ). bit_xor n (multiple k (multiple 2 v))) (multiple-xor k v (multiple 1 v)))))
+    (multiple-xor k (bit_xor v (multiple 1 v)) (multiple 2 v)
+    ∙ ap (λ (n : ℕ). bit_xor n (multiple k (multiple 2 v))) (multiple-xor k v (multiple 1 v)))))
 
 -- the element 1 is the number 2 ^ 127
 one_128 : multiple 128 (2 ^ 127) ≡ fold_down (2 ^ 127)

@@ -3,10 +3,12 @@
 
 mod counter;
 mod hash;
+mod key;
 mod product;
 mod seal;
 #[cfg(test)]
 mod tests;
 
 pub use hash::ghash;
+pub use key::GhashKey;
 pub use seal::{GcmRefused, gcm_open, gcm_seal, gcm_tag};

@@ -37,7 +37,7 @@ pub fn product(x: u128, y: u128) -> u128
 }
 
 // The multiple after this one: a place to the right.
-fn next_multiple(v: u128) -> u128
+pub fn next_multiple(v: u128) -> u128
     ensures { result ≡ next_multiple v }
 {
     if v % 2 == 1 {

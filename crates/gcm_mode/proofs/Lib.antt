@@ -3,6 +3,5 @@ pub mod Counting
 mod Facts
 pub mod Hashing
 pub mod Multiples
-pub mod Products
 pub mod Reducing
 pub mod Turns

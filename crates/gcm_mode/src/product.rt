@@ -2,7 +2,7 @@
 //! first.
 
 ghost use Rattle.std.specs.Prelude.{◌≡◌};
-ghost use Rattle.gcm_mode.specs.Product.{block_of, next_multiple, number_of, product};
+ghost use Rattle.gcm_mode.specs.Product.{block_of, next_multiple, number_of};
 
 // R: the bits 11100001 and 120 zeros.
 const REDUCTION: u128 = 0xe100_0000_0000_0000_0000_0000_0000_0000;
@@ -19,21 +19,6 @@ pub fn block_of(number: u128) -> [u8; 16]
     ensures { result ≡ block_of number }
 {
     number.to_be_bytes()
-}
-
-// The product, bit by bit of the first factor.
-pub fn product(x: u128, y: u128) -> u128
-    ensures { result ≡ product x y }
-{
-    let mut sum = 0;
-    let mut multiple = y;
-    for i in 0..128u32 {
-        if (x >> (127 - i)) % 2 == 1 {
-            sum ^= multiple;
-        }
-        multiple = next_multiple(multiple);
-    }
-    sum
 }
 
 // The multiple after this one: a place to the right.

@@ -88,7 +88,7 @@ gctr-piece f nonce whole bytes ys i e k full end part within is so_far =
     let all = length-xor_bytes-le (take k (drop (16 * i) bytes)) (f (counter_block nonce (2 + i))) (omega arith) in
     let len : length ys ≡ k = ap length is ∙ omega arith in
     written (gctr f nonce (2 + i)) (gctr f nonce (2 + (i + 1))) whole bytes ys (16 * i) (16 * (i + 1)) k e
-        next (rw next end) part within len so_far (rw same step)
+    next (rw next end) part within len so_far (rw same step)
 
 -- ---- counter mode undoes itself, where the cipher keeps blocks blocks
 

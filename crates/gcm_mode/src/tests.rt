@@ -81,27 +81,23 @@ fn published_products(rt: HostRuntime) {
     }
 }
 
-// Every bit alone, every digit in every place, and products of products.
+// Every digit in every place, and products of products.
 #[test]
 fn products_by_tables(rt: HostRuntime) {
     for h in [H_2, &[0; 16], &[255; 16], b"a block as a key"] {
         let key = GhashKey::new(h);
         let y = number_of(h);
-        for place in 0..128u32 {
-            let x = 1 << place;
-            assert_eq!(rt; key.product(x), product_by_bits(x, y), "bit {place}");
-        }
         for place in 0..32u32 {
-            for digit in 0..16u128 {
-                let x = digit << (4 * place);
+            for digit in 0..16u32 {
+                let x = u128::from(digit) << (4 * place);
                 assert_eq!(rt; key.product(x), product_by_bits(x, y), "{digit} at {place}");
             }
         }
-        let mut x = y;
-        for turn in 0..64u128 {
+        let mut x = 1;
+        for turn in 0..64u32 {
             let next = product_by_bits(x, y);
             assert_eq!(rt; key.product(x), next, "turn {turn}");
-            x = next ^ turn;
+            x = next ^ u128::from(turn);
         }
     }
 }

@@ -21,7 +21,7 @@ loop-i-preserved g c =
     let full = (keeps (counter_block nonce (2 + i)) (IsBlock-counter_block f keeps nonce c.told-nonce c.fits-nonce (2 + i))).0 in
     let ys = rw c.stream_block-stream.ensures at c.xor_into.ensures in
     gctr-piece f nonce (ctr f nonce c.args.bytes.now) bytes c.xor_into.new.bytes i (16 * i + 16) (16 * i + 16 - 16 * i)
-        full (omega arith) refl (omega arith) ys c.loop-i.invariant
+    full (omega arith) refl (omega arith) ys c.loop-i.invariant
 
 pub returns-then-whole-bytes : goal.returns-then-whole-bytes
 returns-then-whole-bytes g c =
@@ -37,7 +37,7 @@ returns-then-whole-bytes g c =
     let written = put_mid (16 * i) (length bytes - 16 * i) bytes c.xor_into-then-whole-bytes.new.bytes in
     let so_far = rw done at c.loop-i.invariant in
     let step = gctr-piece f nonce (ctr f nonce c.args.bytes.now) bytes c.xor_into-then-whole-bytes.new.bytes i (length bytes) (length bytes - 16 * i)
-        full (omega arith) refl c.if-whole-bytes.true ys so_far in
+    full (omega arith) refl c.if-whole-bytes.true ys so_far in
     let len : length written ≤ 16 * (i + 1) = simp (length-append, length-take, length-drop) (omega arith) in
     let front = take_all (16 * (i + 1)) written len in
     let back = drop_all (16 * (i + 1)) written len in

@@ -1,12 +1,12 @@
 -- A product in turns of four digits: each turn goes four places on and adds a digit of each quarter,
 -- in a number of 256 bits that is reduced at the end.
-use Rattle.std.proofs.Common.{◌≡◌, ℕ, zero, suc, ◌+◌, ◌-◌, ◌*◌, ◌/◌, ◌%◌, ◌^◌, ◌<◌, ◌≤◌, bit_xor, refl, sym, ap, ◌∙◌, arith, add-zero, zero-mul, le_refl, pow-add, pow_pos, mul_assoc, shr-shr, lit≤}
-use Rattle.std.specs.Int.Bits.{xor_assoc, xor_zero_l, xor_zero_r}
+use Rattle.std.proofs.Common.{◌≡◌, ℕ, ◌+◌, ◌-◌, ◌*◌, ◌/◌, ◌%◌, ◌^◌, ◌<◌, ◌≤◌, bit_xor, refl, sym, ap, ◌∙◌, arith, add-zero, zero-mul, le_refl, pow-add, pow_pos, mul_assoc, shr-shr, lit≤}
+use Rattle.std.specs.Int.Bits.{xor_assoc}
 use Rattle.std.proofs.lemmas.Nat.{xor_comm, xor_shr, xor_mod, shr_split, field_of, mod_low, mod-pow-add, shl-shr}
 use Rattle.gcm_mode.specs.Key.{multiple, element}
-use Rattle.gcm_mode.specs.Product.{next_multiple, sum_of_multiples, product}
+use Rattle.gcm_mode.specs.Product.{sum_of_multiples, product}
 use Rattle.gcm_mode.proofs.Multiples.{xor_swap, multiple-xor, multiple-add, multiple-whole, multiple-parts, sum_of_multiples-more}
-use Rattle.gcm_mode.proofs.Reducing.{fold_down, multiple-turned, multiple-128}
+use Rattle.gcm_mode.proofs.Reducing.{multiple-turned, multiple-128}
 
 -- ---- numbers whose last bits are 0
 

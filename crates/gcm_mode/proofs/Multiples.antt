@@ -1,6 +1,6 @@
 -- Sums and multiples in GF(2^128): the next multiple is linear, so are the multiples after it and the
 -- product, and a multiple is a shift where no 1 is shifted out.
-use Rattle.std.proofs.Common.{◌≡◌, ℕ, zero, suc, ◌+◌, ◌-◌, ◌*◌, ◌/◌, ◌%◌, ◌^◌, ◌<◌, ◌≤◌, bit_xor, refl, sym, ap, ◌∙◌, arith, one-mul, zero-mul, zero-add, mul-zero, mul_assoc, pow-suc, pow_pos, mod-lt, shr-shr}
+use Rattle.std.proofs.Common.{◌≡◌, ℕ, zero, suc, ◌+◌, ◌*◌, ◌/◌, ◌%◌, ◌^◌, ◌<◌, bit_xor, refl, sym, ap, ◌∙◌, arith, one-mul, zero-mul, mul_assoc, pow-suc, pow_pos, mod-lt, shr-shr}
 use Rattle.std.specs.Int.Bits.{xor_assoc, xor_self, xor_zero_l, xor_zero_r, xor_shifted}
 use Rattle.std.proofs.lemmas.Nat.{xor_comm, xor_shr, xor_mod, shr_split}
 use Rattle.gcm_mode.specs.Key.{multiple}

@@ -1,12 +1,12 @@
 -- A number of 256 bits, high and low, as an element: its low half stands for its 128th multiple, and
 -- x^128 is x^7 + x^2 + x + 1.
-use Rattle.std.proofs.Common.{◌≡◌, ℕ, zero, suc, ◌+◌, ◌-◌, ◌*◌, ◌/◌, ◌%◌, ◌^◌, ◌<◌, ◌≤◌, inl, inr, bit_xor, refl, sym, ap, ◌∙◌, arith, one-mul, zero-mul, pow-suc, pow_pos, mod-lt, lit<, lit≤}
+use Rattle.std.proofs.Common.{◌≡◌, ℕ, zero, suc, ◌+◌, ◌-◌, ◌*◌, ◌^◌, ◌<◌, ◌≤◌, inl, inr, bit_xor, refl, sym, ap, ◌∙◌, arith, one-mul, pow-suc, pow_pos, lit≤}
 use Rattle.std.proofs.lemmas.Bool.{cases_lt}
-use Rattle.std.specs.Int.Bits.{xor_assoc, xor_self, xor_zero_l, xor_zero_r, xor_shifted}
-use Rattle.std.proofs.lemmas.Nat.{xor_comm, xor_shr, xor_mod, xor_lt, pow-add, shr_split}
+use Rattle.std.specs.Int.Bits.{xor_shifted}
+use Rattle.std.proofs.lemmas.Nat.{pow-add}
 use Rattle.gcm_mode.specs.Key.{multiple}
 use Rattle.gcm_mode.specs.Product.{next_multiple}
-use Rattle.gcm_mode.proofs.Multiples.{xor_swap, next_multiple-xor, multiple-xor, multiple-add, multiple-whole, multiple-parts}
+use Rattle.gcm_mode.proofs.Multiples.{xor_swap, multiple-xor, multiple-add, multiple-whole}
 
 -- ---- x^128
 

@@ -1,14 +1,14 @@
 -- What a turn of a product keeps: the halves of the first factor, as far as they are left, and a sum
 -- that is worth the digits before.
-use Rattle.std.proofs.Common.{◌≡◌, ℕ, zero, suc, ◌+◌, ◌-◌, ◌*◌, ◌/◌, ◌%◌, ◌^◌, ◌<◌, ◌≤◌, List, [], ◌∷◌, ◌++◌, length, slice_index, bit_xor, refl, sym, ap, ◌∙◌, arith, inl, inr, one-mul, zero-mul, shr-shr}
+use Rattle.std.proofs.Common.{◌≡◌, ℕ, zero, suc, ◌+◌, ◌-◌, ◌*◌, ◌/◌, ◌%◌, ◌^◌, ◌<◌, ◌≤◌, List, [], ◌∷◌, length, slice_index, bit_xor, refl, sym, ap, ◌∙◌, arith, inl, inr, one-mul, zero-mul, shr-shr}
 use Rattle.std.proofs.lemmas.List.{get_or_append_left, get_or_push, length_push}
 use Rattle.std.proofs.lemmas.Bool.{cases_lt}
 use Rattle.std.proofs.lemmas.Nat.{field_of, mod-pow-add}
 use Rattle.std.specs.Int.Bits.{xor_zero_r}
-use Rattle.gcm_mode.specs.Product.{sum_of_multiples, product}
-use Rattle.gcm_mode.specs.Key.{digit_multiples, IsTable, multiple, element}
+use Rattle.gcm_mode.specs.Product.{sum_of_multiples}
+use Rattle.gcm_mode.specs.Key.{digit_multiples, IsTable, element}
 use Rattle.gcm_mode.proofs.Multiples.{sum_of_multiples-digit}
-use Rattle.gcm_mode.proofs.Combing.{quarters, quarters_high, quarters_low, element-zero, element-turn, clear-less, clear-turn, combed, combed-zero, combed-more}
+use Rattle.gcm_mode.proofs.Combing.{quarters_high, quarters_low, element-zero, element-turn, clear-less, clear-turn, combed, combed-zero, combed-more}
 
 -- ---- the table
 

@@ -11,4 +11,5 @@ mod tests;
 
 pub use hash::ghash;
 pub use key::GhashKey;
+pub use product::product_of_sums;
 pub use seal::{GcmRefused, gcm_open, gcm_seal, gcm_tag};

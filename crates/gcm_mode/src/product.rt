@@ -1,8 +1,8 @@
 //! Blocks as elements of GF(2^128) (SP 800-38D, 6.3): a block is the number of its bytes, high byte
 //! first.
 
-ghost use Rattle.std.specs.Prelude.{◌≡◌};
-ghost use Rattle.gcm_mode.specs.Product.{block_of, next_multiple, number_of};
+ghost use Rattle.std.specs.Prelude.{◌≡◌, ℕ, bit_xor};
+ghost use Rattle.gcm_mode.specs.Product.{block_of, next_multiple, number_of, product};
 
 // R: the bits 11100001 and 120 zeros.
 const REDUCTION: u128 = 0xe100_0000_0000_0000_0000_0000_0000_0000;
@@ -31,3 +31,9 @@ pub fn next_multiple(v: u128) -> u128
         v >> 1
     }
 }
+
+/// The product of a sum is the sum of the products, in each factor.
+pub fn product_of_sums()
+    ensures first { (x y h : ℕ) → product (bit_xor x y) h ≡ bit_xor (product x h) (product y h) }
+    ensures second { (x h k : ℕ) → product x (bit_xor h k) ≡ bit_xor (product x h) (product x k) }
+{}

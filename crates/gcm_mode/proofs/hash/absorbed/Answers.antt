@@ -1,4 +1,4 @@
-use Rattle.std.proofs.Common.{◌≡◌, ◌<◌, [], ◌∷◌, length, refl, sym, ap, ◌∙◌, arith, tests}
+use Rattle.std.proofs.Common.{◌≡◌, ◌<◌, [], length, refl, ap, ◌∙◌, arith, tests}
 use Rattle.std.proofs.lemmas.List.{nil_from_length}
 use Rattle.gcm_mode.specs.Ghash.{hash_blocks}
 use Rattle.gcm_mode.proofs.Hashing.{filled, ends, ends-some, hash_blocks-parts}

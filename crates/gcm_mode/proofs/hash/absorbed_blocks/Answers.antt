@@ -1,6 +1,5 @@
-use Rattle.std.proofs.Common.{◌≡◌, ◌+◌, [], length, drop, refl, sym, ap, ◌∙◌, arith, add-one, drop-cons}
+use Rattle.std.proofs.Common.{[], add-one, drop-cons}
 use Rattle.std.proofs.lemmas.List.{drop_all}
-use Rattle.gcm_mode.specs.Ghash.{absorb}
 use Rattle.gcm_mode.proofs.hash.absorbed_blocks.Goals as goal
 
 pub loop-block-preserved : goal.loop-block-preserved

@@ -1,6 +1,6 @@
-use Rattle.std.proofs.Common.{◌≡◌, ◌+◌, ◌*◌, ◌/◌, ◌%◌, ◌^◌, ◌<◌, slice_index, ap, ◌∙◌, arith, refl, bit_xor}
+use Rattle.std.proofs.Common.{◌≡◌, ◌/◌, ◌%◌, ◌^◌, ◌<◌, slice_index, ◌∙◌, arith, refl}
 use Rattle.gcm_mode.proofs.Combing.{cut, combed-all}
-use Rattle.gcm_mode.proofs.Turns.{IsCombed, combed-none, combed-turn}
+use Rattle.gcm_mode.proofs.Turns.{combed-none, combed-turn}
 use Rattle.gcm_mode.proofs.key.combed.Goals as goal
 
 pub loop-init : goal.loop-init

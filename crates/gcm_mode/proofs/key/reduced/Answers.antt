@@ -1,5 +1,5 @@
-use Rattle.std.proofs.Common.{◌≡◌, ◌*◌, ◌%◌, ◌^◌, ◌<◌, ap, ◌∙◌, arith, bit_xor}
-use Rattle.gcm_mode.proofs.Combing.{reduced, reduced-element}
+use Rattle.std.proofs.Common.{◌≡◌, ◌*◌, ◌%◌, ◌^◌, ◌<◌, arith}
+use Rattle.gcm_mode.proofs.Combing.{reduced-element}
 use Rattle.gcm_mode.proofs.key.reduced.Goals as goal
 
 pub returns : goal.returns

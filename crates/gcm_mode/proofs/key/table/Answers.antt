@@ -1,6 +1,6 @@
-use Rattle.std.proofs.Common.{◌≡◌, one-mul, zero-mul, refl}
+use Rattle.std.proofs.Common.{one-mul, zero-mul}
 use Rattle.std.specs.Int.Bits.{xor_assoc, xor_zero_l, xor_zero_r}
-use Rattle.gcm_mode.specs.Product.{next_multiple, sum_of_multiples}
+use Rattle.gcm_mode.specs.Product.{sum_of_multiples}
 use Rattle.gcm_mode.proofs.key.table.Goals as goal
 
 pub returns : goal.returns

@@ -1,5 +1,4 @@
-use Rattle.std.proofs.Common.{◌≡◌, slice_index, ◌∙◌}
-use Rattle.gcm_mode.specs.Key.{IsTable}
+use Rattle.std.proofs.Common.{◌∙◌}
 use Rattle.gcm_mode.proofs.Turns.{IsTable-key}
 use Rattle.gcm_mode.proofs.key.GhashKey.new.Goals as goal
 

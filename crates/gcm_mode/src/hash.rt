@@ -10,7 +10,8 @@ use crate::product::{block_of, number_of};
 use dp_base::be64;
 
 /// The hash under `h` of additional data and a text, each filled with zeros to whole blocks of 16
-/// bytes, and of their lengths in bits. Takes no memory. It works by tables, and not in constant time.
+/// bytes, and of their lengths in bits. Takes no memory. It works by a table, and not in constant
+/// time.
 pub fn ghash(h: &[u8; 16], aad: &[u8], text: &[u8]) -> [u8; 16]
     requires aad { length aad.now < 2 ^ 32 }
     requires text { length text.now < 2 ^ 32 }

@@ -9,8 +9,8 @@ use std::marker::Model;
 
 /// A block as the key of the hash, of which 16 multiples are worked out once. Takes no memory.
 ///
-/// A product reads them at places that depend on what is hashed, so its time may tell of that and of
-/// the key to who shares the machine: it doesn't run in constant time.
+/// A product reads them at places that depend on what is hashed, so its time may tell of that and
+/// of the key to who shares the machine: it doesn't run in constant time.
 #[derive(Drop)]
 pub struct GhashKey {
     // The multiple for each digit of four bits, of which the leftmost stands for the key itself.
@@ -67,7 +67,7 @@ fn table(a: u128, b: u128, c: u128, d: u128) -> [u128; 16]
 
 // The product with the number of the table. Each of eight turns goes four places on, and adds the
 // multiples for a digit of each quarter of x, the last digits first. The sum has 256 bits, of which
-// the last are never reached.
+// the last 4 stay 0.
 fn combed(m: &[u128; 16], x: u128) -> u128
     requires { IsTable m.now (slice_index m.now 8) }
     ensures { result ≡ product x (slice_index m.now 8) }
@@ -89,8 +89,9 @@ fn combed(m: &[u128; 16], x: u128) -> u128
     reduced(high, low)
 }
 
-// The 256 bits modulo x^128 + x^7 + x^2 + x + 1: each of the last 128 stands for x^7 + x^2 + x + 1 at
-// its place. The last 4 are 0, so that only x^7 leads past the end, by three bits.
+// The 256 bits modulo x^128 + x^7 + x^2 + x + 1: each of the last 128 stands for x^7 + x^2 + x + 1
+// at its place. The last 4 are 0, so only x^7 leads past the end, for three bits: t has them in
+// front, too.
 fn reduced(high: u128, low: u128) -> u128
     requires { low % 16 ≡ 0 }
     ensures { result ≡ element high low }

@@ -1,5 +1,5 @@
-//! Published products and hashes, the product of the standard beside the one by tables, and sealing under a cipher that adds one byte to each, so that a text shows the
-//! counters and the tag.
+//! Published products and hashes, the product by tables beside the standard's, and sealing under a
+//! cipher that adds one byte to each, so that a text shows the counters and the tag.
 
 use super::*;
 use crate::product::{next_multiple, number_of};

@@ -56,8 +56,8 @@ fn product_by_bits(x: u128, y: u128) -> u128 {
 
 const H_2: &[u8; 16] = b"\x66\xe9\x4b\xd4\xef\x8a\x2c\x3b\x88\x4c\xfa\x59\xca\x34\x2b\x2e";
 
-// X 1, and X 2 with the lengths, of test case 2 of "The Galois/Counter Mode of Operation (GCM)" by
-// McGrew and Viega.
+// Test case 2 of "The Galois/Counter Mode of Operation (GCM)" by McGrew and Viega: the enciphered block
+// times H is X 1, and X 1 xor the lengths, times H, is the hash.
 #[test]
 fn published_products(rt: HostRuntime) {
     let cases = [

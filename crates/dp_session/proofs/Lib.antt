@@ -1,0 +1,5 @@
+pub mod Paths
+pub mod Answers
+pub mod Taking
+pub mod Drawing
+pub mod Turns

@@ -1,0 +1,20 @@
+//! A session: framed requests, each served in turn by a lawful path and answered before the next is
+//! read, with a trace of what each used.
+#![tactic(auto)]
+
+mod answer;
+mod end;
+mod reading;
+mod serving;
+
+
+mod status;
+mod trace;
+
+pub use end::{BadPlace, BadWhy, SessionEnd};
+
+pub use status::Status;
+pub use trace::{Drawn, Entries, Entry, Trace, Used};
+
+
+

@@ -3,3 +3,4 @@ pub mod Answers
 pub mod Taking
 pub mod Drawing
 pub mod Turns
+pub mod Sessions

@@ -82,7 +82,7 @@ pub failed : {A E : Type 0} {P Q : Type 0} (r : Result A E) → OnErr r P → (P
 failed (Ok a) h f = tt
 failed (Err e) h f = f h
 
-length-frame : (bytes : List ℕ) → length (frame bytes) ≡ 4 + length bytes
+pub length-frame : (bytes : List ℕ) → length (frame bytes) ≡ 4 + length bytes
 unfolding frame
 length-frame bytes = length-append (to_be_bytes w32 (length bytes)) bytes
 

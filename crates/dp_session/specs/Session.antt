@@ -1,5 +1,5 @@
 -- A session: requests served one after the other, and what comes in and goes out.
-use Rattle.std.specs.Prelude.{◌≡◌, ℕ, zero, ◌+◌, ◌≤◌, ◌<◌, max, List, [], ◌∷◌, ◌++◌, length, take, drop, Option, Some, None, IfSome, IsSome}
+use Rattle.std.specs.Prelude.{◌≡◌, ℕ, zero, Bool, true, false, ◌||◌, ◌+◌, ◌≤◌, ◌<◌, max, List, [], ◌∷◌, ◌++◌, length, take, drop, Option, Some, None, IfSome, IsSome}
 use Rattle.key_elements.specs.declared.element.Element.{Element}
 use Rattle.key_elements.specs.Lists.{Extends}
 use Rattle.dp_base.specs.Transfer.{TakesAtMost, Writes, WritesFront}
@@ -97,9 +97,10 @@ pub record NoMore (old new : Outside) : Type 0 where
 -- how a session ends at its next frame: so many bytes from its beginning
 abbrev pub EndsAt : Status → Option BadWhy → Outside → Outside → Type 0
 EndsAt status.Done bad old new =
-    NoMore old new × IfSome old.input (λ bytes. (bytes ≡ []) × (new.input ≡ Some []))
+    NoMore old new × IfSome old.input (λ bytes. (bytes ≡ []) × (new.input ≡ Some [])) × (bad ≡ None)
 EndsAt status.BadWords bad old new = ⊥
-EndsAt status.BadInput bad old new = NoMore old new × IfSome bad (λ why. IfSome old.input (λ bytes. IsBadFrame bytes why)) × IsSome bad
+EndsAt status.BadInput bad old new =
+    NoMore old new × IfSome bad (λ why. IfSome old.input (λ bytes. IsBadFrame bytes why)) × IsSome bad
 EndsAt status.ReadFault bad old new =
     NoMore old new × TakesAtMost (4 + MAX_BODY) old.input new.input × (bad ≡ None)
 EndsAt status.WriteFault bad old new = (len : ℕ) × OneMore WritesFront old new len × (bad ≡ None)
@@ -113,29 +114,77 @@ abbrev pub outside : Option (List ℕ) → Option (List ℕ) → State → List 
 outside input output state entries list =
     record { input = input; output = output; state = state; entries = entries; list = list }
 
--- the session's list is the longest one used, and the pass has seen it; where one was used, it
+-- whether an entry has a list
+abbrev pub has_list : Used → Bool
+has_list (used.Ring front made_at) = true
+has_list (used.Placed place) = true
+has_list (used.Refused why) = false
+has_list (used.BadRequest place) = false
+has_list used.NoMemory = false
+
+abbrev pub any_list : List Entry → Bool
+any_list [] = false
+any_list (e ∷ es) = has_list e.used || any_list es
+
+-- the session's list is the longest that was used, and the pass has seen it; where one was used, it
 -- extends what the pass had seen before
 pub record IsLongest (es : List Entry) (list before after : List Element) : Type 0 where
-  pub longest : length list ≡ longest es
+  pub count : length list ≡ longest es
   pub seen : Extends after list
   pub grows : Extends after before
+  pub starts : any_list es ≡ true → Extends list before
 
--- the input behind the frames that were served: how the session ended, so many bytes from its
--- beginning, after so many requests
-abbrev pub EndsInput : Status → Option BadPlace → ℕ → ℕ → List ℕ → Option (List ℕ) → Type 0
-EndsInput status.Done bad place count rest after = (rest ≡ []) × (after ≡ Some [])
-EndsInput status.BadWords bad place count rest after = ⊥
-EndsInput status.BadInput bad place count rest after =
-    IfSome bad (λ b. (b.place ≡ place) × IsBadFrame rest b.why)
-EndsInput status.ReadFault bad place count rest after = TakesAtMost (4 + MAX_BODY) (Some rest) after
-EndsInput status.WriteFault bad place count rest after = after ≡ Some rest
-EndsInput status.StoreFault bad place count rest after = ⊥
-EndsInput status.DrawFault bad place count rest after = ⊥
-EndsInput status.NoMemory bad place count rest after = after ≡ Some rest
-EndsInput status.Spent bad place count rest after =
-    (count ≡ MOST) × (1 ≤ length rest) × (after ≡ Some (drop 1 rest))
+-- requests that were served so far: their bodies, as the bytes that were read and the entries tell,
+-- and their replies
+pub record SoFar (old new : Outside) (place : ℕ) : Type 0 where
+  pub bodies : List (List ℕ)
+  pub fit : AreBodies bodies
+  pub chain : Chain bodies new.entries old.state new.state
+  pub read : Consumes old.input new.input (frames bodies)
+  pub written : Writes old.output new.output (session_output bodies new.entries new.list)
+  pub list : IsLongest new.entries new.list old.state.host.own new.state.host.own
+  pub count : place ≡ length (frames bodies)
+
+-- what is left of the input, and what was taken of that, at each end of a session
+abbrev pub EndsInput : Status → Option BadPlace → ℕ → Option (List ℕ) → Option (List ℕ) → Type 0
+EndsInput status.Done bad place left after = IfSome left (λ bytes. (bytes ≡ []) × (after ≡ Some []))
+EndsInput status.BadWords bad place left after = ⊥
+EndsInput status.BadInput bad place left after =
+    IfSome bad (λ b. (b.place ≡ place) × IfSome left (λ bytes. IsBadFrame bytes b.why))
+EndsInput status.ReadFault bad place left after = TakesAtMost (4 + MAX_BODY) left after
+EndsInput status.WriteFault bad place left after = after ≡ left
+EndsInput status.StoreFault bad place left after = ⊥
+EndsInput status.DrawFault bad place left after = ⊥
+EndsInput status.NoMemory bad place left after = after ≡ left
+EndsInput status.Spent bad place left after =
+    IfSome left (λ bytes. (1 ≤ length bytes) × (after ≡ Some (drop 1 bytes)))
+
+-- where bad input is, where there is such
+abbrev pub bad_at : Option BadWhy → ℕ → Option BadPlace
+bad_at (Some why) place = Some (record { place = place; why = why })
+bad_at None place = None
+
+-- how a session ends after its last request
+abbrev pub IsSpentEnd : Status → Type 0
+IsSpentEnd status.Done = Unit {0}
+IsSpentEnd status.ReadFault = Unit {0}
+IsSpentEnd status.Spent = Unit {0}
+IsSpentEnd _ = ⊥
 
 -- what was written: all replies, or a front of them where a write failed
 abbrev pub EndsOutput : Status → Option (List ℕ) → Option (List ℕ) → List ℕ → Type 0
 EndsOutput status.WriteFault written after bytes = WritesFront written after bytes
 EndsOutput _ written after bytes = Writes written after bytes
+
+-- a whole session: the requests are the frames of the bytes read, in order, each has its entry, and
+-- the bytes written are the replies to them
+pub record IsSession (end : Status) (bad : Option BadPlace) (old new : Outside) : Type 0 where
+  pub bodies : List (List ℕ)
+  pub fit : AreBodies bodies
+  pub chain : Chain bodies new.entries old.state new.state
+  -- what was left behind the frames
+  pub left : Option (List ℕ)
+  pub read : Consumes old.input left (frames bodies)
+  pub ends : EndsInput end bad (length (frames bodies)) left new.input
+  pub written : EndsOutput end old.output new.output (session_output bodies new.entries new.list)
+  pub list : IsLongest new.entries new.list old.state.host.own new.state.host.own

@@ -6,12 +6,14 @@ mod answer;
 mod end;
 mod reading;
 mod serving;
+mod session;
 
 
 mod status;
 mod trace;
 
 pub use end::{BadPlace, BadWhy, SessionEnd};
+pub use session::{MAX_REQUESTS, serve_session};
 
 pub use status::Status;
 pub use trace::{Drawn, Entries, Entry, Trace, Used};

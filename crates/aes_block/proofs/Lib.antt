@@ -1,6 +1,6 @@
+pub mod Equivalent
 pub mod Expanded
 pub mod Facts
-pub mod InPlace
-pub mod Multiples
 pub mod RoundLemmas
 pub mod Schedule
+pub mod Words

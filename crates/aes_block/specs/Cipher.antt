@@ -24,11 +24,11 @@ unfoldable pub shift_rows : List ℕ → List ℕ
 shift_rows s = state_of (λ r c. state_byte s r ((c + r) % 4))
 
 -- coefficient r of the product of the polynomial a0 + a1 x + a2 x^2 + a3 x^3 and that of column c,
--- modulo x^4 + 1 (5.1.3)
+-- modulo x^4 + 1 (4.3)
 abbrev pub product_at : ℕ → ℕ → ℕ → ℕ → List ℕ → ℕ → ℕ → ℕ
 product_at a0 a1 a2 a3 s r c =
-    bit_xor (bit_xor (times a0 (state_byte s r c)) (times a1 (state_byte s ((r + 3) % 4) c)))
-    (bit_xor (times a2 (state_byte s ((r + 2) % 4) c)) (times a3 (state_byte s ((r + 1) % 4) c)))
+    bit_xor (bit_xor (times a0 (state_byte s r c)) (times a3 (state_byte s ((r + 1) % 4) c)))
+    (bit_xor (times a2 (state_byte s ((r + 2) % 4) c)) (times a1 (state_byte s ((r + 3) % 4) c)))
 
 -- MixColumns: each column times 3 x^3 + x^2 + x + 2 (5.1.3)
 unfoldable pub mix_columns : List ℕ → List ℕ

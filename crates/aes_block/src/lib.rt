@@ -3,9 +3,10 @@
 
 mod aes;
 mod expansion;
-mod field;
+mod inv_tables;
 mod rounds;
-mod steps;
+mod s_box;
+mod tables;
 #[cfg(test)]
 mod tests;
 

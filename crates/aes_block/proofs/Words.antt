@@ -2,7 +2,7 @@
 use Rattle.std.proofs.Common.{◌≡◌, ℕ, ◌+◌, ◌*◌, ◌/◌, ◌%◌, ◌^◌, ◌<◌, List, [], ◌∷◌, ◌++◌, slice_index, refl, sym, ap, ◌∙◌, arith}
 use Rattle.std.specs.Prelude.{bit_xor}
 use Rattle.std.specs.Int.{w32, byte_at, from_be_bytes, to_be_bytes}
-use Rattle.std.proofs.lemmas.Nat.{be_bytes_4, xor_mod, xor_shr}
+use Rattle.std.proofs.lemmas.Nat.{be_bytes_4, xor_comm, xor_mod, xor_shr}
 use Rattle.dp_base.specs.Blocks.{xor_bytes}
 use Rattle.aes_block.specs.Cipher.{add_round_key, round_key}
 use Rattle.aes_block.specs.Columns.{column_product, products_word, state_bytes}
@@ -29,10 +29,10 @@ to_be_bytes-products a b c d x h =
     to_be_bytes-four (times a x) (times b x) (times c x) (times d x) (times-lt a x h) (times-lt b x h) (times-lt c x h) (times-lt d x h)
 
 -- the words of four tables make the product of a column
-pub column_by_table : (a0 a1 a2 a3 x y z t : ℕ) → x < 256 → y < 256 → z < 256 → t < 256
+in_order : (a0 a1 a2 a3 x y z t : ℕ) → x < 256 → y < 256 → z < 256 → t < 256
     → to_be_bytes w32 (bit_xor (bit_xor (products_word a0 a1 a2 a3 x) (products_word a3 a0 a1 a2 y)) (bit_xor (products_word a2 a3 a0 a1 z) (products_word a1 a2 a3 a0 t)))
     ≡ column_product a0 a1 a2 a3 (x ∷ y ∷ z ∷ t ∷ [])
-column_by_table a0 a1 a2 a3 x y z t hx hy hz ht =
+in_order a0 a1 a2 a3 x y z t hx hy hz ht =
     let p : ℕ → ℕ → ℕ = times in
     let px = products_word a0 a1 a2 a3 x in
     let py = products_word a3 a0 a1 a2 y in
@@ -47,6 +47,18 @@ column_by_table a0 a1 a2 a3 x y z t hx hy hz ht =
     ∷ sum4_turn (p a1 x) (p a0 y) (p a3 z) (p a2 t) i
     ∷ (sum4_turn (p a2 x) (p a1 y) (p a0 z) (p a3 t) ∙ sum4_turn (p a1 y) (p a0 z) (p a3 t) (p a2 x)) i
     ∷ sym (sum4_turn (p a0 t) (p a3 x) (p a2 y) (p a1 z)) i ∷ [])
+
+-- and so they do from the last one on
+pub column_by_table : (a0 a1 a2 a3 x y z t : ℕ) → x < 256 → y < 256 → z < 256 → t < 256
+    → to_be_bytes w32 (bit_xor (bit_xor (products_word a1 a2 a3 a0 t) (products_word a2 a3 a0 a1 z)) (bit_xor (products_word a3 a0 a1 a2 y) (products_word a0 a1 a2 a3 x)))
+    ≡ column_product a0 a1 a2 a3 (x ∷ y ∷ z ∷ t ∷ [])
+column_by_table a0 a1 a2 a3 x y z t hx hy hz ht =
+    let px = products_word a0 a1 a2 a3 x in
+    let py = products_word a3 a0 a1 a2 y in
+    let pz = products_word a2 a3 a0 a1 z in
+    let pt = products_word a1 a2 a3 a0 t in
+    ap (to_be_bytes w32) (xor_comm (bit_xor pt pz) (bit_xor py px) ∙ (λ i. bit_xor (xor_comm py px i) (xor_comm pt pz i)))
+    ∙ in_order a0 a1 a2 a3 x y z t hx hy hz ht
 
 -- the sums of four words with those of a round key
 pub state_bytes-xor : (a b c d : ℕ) (w : List ℕ) (r : ℕ)

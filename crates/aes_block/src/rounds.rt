@@ -1,7 +1,10 @@
 //! The rounds of the cipher (FIPS 197, 5.1) and of the equivalent inverse cipher (5.3.5) over a
 //! schedule. A state is four words, one for each column, whose high byte is in row 0.
+//!
+//! A round here goes from before one AddRoundKey to before the next, and two rounds make a turn: other
+//! orders have the compiler pack the columns into one vector, which costs a third.
 
-ghost use Rattle.std.specs.Prelude.{◌≡◌, ◌%◌, ◌<◌, ◌≤◌, [], ◌∷◌};
+ghost use Rattle.std.specs.Prelude.{◌≡◌, ◌+◌, ◌%◌, ◌<◌, ◌≤◌, [], ◌∷◌};
 ghost use Rattle.std.specs.Int.{w32, to_be_bytes};
 ghost use Rattle.aes_block.specs.Cipher.{add_round_key, cipher, inv_mix_columns, inv_shift_rows, inv_sub_bytes, mix_columns, shift_rows, sub_bytes};
 ghost use Rattle.aes_block.specs.Columns.{state_bytes};
@@ -20,13 +23,13 @@ pub(crate) fn cipher(block: &mut [u8; 16], words: &Schedule, rounds: usize)
     requires few { rounds < 15 }
     ensures { block.new ≡ cipher block.old rounds words.now }
 {
-    let mut state = add_round_key(columns(block), words, 0);
-    // Two rounds a turn keep the columns in registers of their own.
+    let mut state = columns(block);
     for turn in 0..rounds / 2 - 1 {
-        state = round(round(state, words, 2 * turn + 1), words, 2 * turn + 2);
+        state = round(round(state, words, 2 * turn), words, 2 * turn + 1);
     }
-    let mixed = round(state, words, rounds - 1);
-    let enciphered = bytes(last_round(mixed, words, rounds));
+    let mixed = round(state, words, rounds - 2);
+    let shifted = last_round(mixed, words, rounds - 1);
+    let enciphered = bytes(add_round_key(shifted, words, rounds));
     *block = enciphered;
 }
 
@@ -37,34 +40,34 @@ pub(crate) fn eq_inv_cipher(block: &mut [u8; 16], inverse: &Schedule, rounds: us
     requires few { rounds < 15 }
     ensures { block.new ≡ eq_inv_cipher block.old rounds inverse.now }
 {
-    let mut state = add_round_key(columns(block), inverse, rounds);
+    let mut state = columns(block);
     for turn in 0..rounds / 2 - 1 {
         let above = rounds - 2 * turn;
-        state = inv_round(inv_round(state, inverse, above - 1), inverse, above - 2);
+        state = inv_round(inv_round(state, inverse, above), inverse, above - 1);
     }
-    let mixed = inv_round(state, inverse, 1);
-    let deciphered = bytes(last_inv_round(mixed, inverse, 0));
+    let mixed = inv_round(state, inverse, 2);
+    let shifted = last_inv_round(mixed, inverse, 1);
+    let deciphered = bytes(add_round_key(shifted, inverse, 0));
     *block = deciphered;
 }
 
-// A column of round r takes row j from j columns to the right, as ShiftRows moves it.
+// A column takes row j from j columns to the right, as ShiftRows moves it.
 #[inline(always)]
 fn round(state: [u32; 4], words: &Schedule, r: usize) -> [u32; 4]
     requires { r < 15 }
     ensures { state_bytes result
-        ≡ add_round_key (mix_columns (shift_rows (sub_bytes (state_bytes state)))) words.now r }
+        ≡ mix_columns (shift_rows (sub_bytes (add_round_key (state_bytes state) words.now r))) }
 {
-    let a = state[0].to_be_bytes();
-    let b = state[1].to_be_bytes();
-    let c = state[2].to_be_bytes();
-    let d = state[3].to_be_bytes();
-    let mixed = [
-        mix_substituted(a[0], b[1], c[2], d[3]),
-        mix_substituted(b[0], c[1], d[2], a[3]),
-        mix_substituted(c[0], d[1], a[2], b[3]),
-        mix_substituted(d[0], a[1], b[2], c[3]),
-    ];
-    add_round_key(mixed, words, r)
+    let keyed = add_round_key(state, words, r);
+    let d = keyed[3].to_be_bytes();
+    let c = keyed[2].to_be_bytes();
+    let b = keyed[1].to_be_bytes();
+    let a = keyed[0].to_be_bytes();
+    let last = mix_substituted(d[0], a[1], b[2], c[3]);
+    let third = mix_substituted(c[0], d[1], a[2], b[3]);
+    let second = mix_substituted(b[0], c[1], d[2], a[3]);
+    let first = mix_substituted(a[0], b[1], c[2], d[3]);
+    [first, second, third, last]
 }
 
 // The last round has no MixColumns.
@@ -72,39 +75,38 @@ fn round(state: [u32; 4], words: &Schedule, r: usize) -> [u32; 4]
 fn last_round(state: [u32; 4], words: &Schedule, r: usize) -> [u32; 4]
     requires { r < 15 }
     ensures { state_bytes result
-        ≡ add_round_key (shift_rows (sub_bytes (state_bytes state))) words.now r }
+        ≡ shift_rows (sub_bytes (add_round_key (state_bytes state) words.now r)) }
 {
-    let a = state[0].to_be_bytes();
-    let b = state[1].to_be_bytes();
-    let c = state[2].to_be_bytes();
-    let d = state[3].to_be_bytes();
-    let shifted = [
+    let keyed = add_round_key(state, words, r);
+    let d = keyed[3].to_be_bytes();
+    let c = keyed[2].to_be_bytes();
+    let b = keyed[1].to_be_bytes();
+    let a = keyed[0].to_be_bytes();
+    [
         substituted(a[0], b[1], c[2], d[3]),
         substituted(b[0], c[1], d[2], a[3]),
         substituted(c[0], d[1], a[2], b[3]),
         substituted(d[0], a[1], b[2], c[3]),
-    ];
-    add_round_key(shifted, words, r)
+    ]
 }
 
-// A column of the inverse takes row j from j columns to the left, as InvShiftRows moves it.
+// A column takes row j from j columns to the left, as InvShiftRows moves it.
 #[inline(always)]
 fn inv_round(state: [u32; 4], inverse: &Schedule, r: usize) -> [u32; 4]
     requires { r < 15 }
-    ensures { state_bytes result ≡ add_round_key
-        (inv_mix_columns (inv_shift_rows (inv_sub_bytes (state_bytes state)))) inverse.now r }
+    ensures { state_bytes result ≡ inv_mix_columns
+        (inv_shift_rows (inv_sub_bytes (add_round_key (state_bytes state) inverse.now r))) }
 {
-    let a = state[0].to_be_bytes();
-    let b = state[1].to_be_bytes();
-    let c = state[2].to_be_bytes();
-    let d = state[3].to_be_bytes();
-    let mixed = [
-        inv_mix_substituted(a[0], d[1], c[2], b[3]),
-        inv_mix_substituted(b[0], a[1], d[2], c[3]),
-        inv_mix_substituted(c[0], b[1], a[2], d[3]),
-        inv_mix_substituted(d[0], c[1], b[2], a[3]),
-    ];
-    add_round_key(mixed, inverse, r)
+    let keyed = add_round_key(state, inverse, r);
+    let d = keyed[3].to_be_bytes();
+    let c = keyed[2].to_be_bytes();
+    let b = keyed[1].to_be_bytes();
+    let a = keyed[0].to_be_bytes();
+    let last = inv_mix_substituted(d[0], c[1], b[2], a[3]);
+    let third = inv_mix_substituted(c[0], b[1], a[2], d[3]);
+    let second = inv_mix_substituted(b[0], a[1], d[2], c[3]);
+    let first = inv_mix_substituted(a[0], d[1], c[2], b[3]);
+    [first, second, third, last]
 }
 
 // The last round of the inverse has no InvMixColumns.
@@ -112,19 +114,19 @@ fn inv_round(state: [u32; 4], inverse: &Schedule, r: usize) -> [u32; 4]
 fn last_inv_round(state: [u32; 4], inverse: &Schedule, r: usize) -> [u32; 4]
     requires { r < 15 }
     ensures { state_bytes result
-        ≡ add_round_key (inv_shift_rows (inv_sub_bytes (state_bytes state))) inverse.now r }
+        ≡ inv_shift_rows (inv_sub_bytes (add_round_key (state_bytes state) inverse.now r)) }
 {
-    let a = state[0].to_be_bytes();
-    let b = state[1].to_be_bytes();
-    let c = state[2].to_be_bytes();
-    let d = state[3].to_be_bytes();
-    let shifted = [
+    let keyed = add_round_key(state, inverse, r);
+    let d = keyed[3].to_be_bytes();
+    let c = keyed[2].to_be_bytes();
+    let b = keyed[1].to_be_bytes();
+    let a = keyed[0].to_be_bytes();
+    [
         inv_substituted(a[0], d[1], c[2], b[3]),
         inv_substituted(b[0], a[1], d[2], c[3]),
         inv_substituted(c[0], b[1], a[2], d[3]),
         inv_substituted(d[0], c[1], b[2], a[3]),
-    ];
-    add_round_key(shifted, inverse, r)
+    ]
 }
 
 // AddRoundKey, with the words 4 r to 4 r + 3 of a schedule.
@@ -176,20 +178,15 @@ fn columns(block: &[u8; 16]) -> [u32; 4]
     ]
 }
 
-// The bytes of the columns.
+// The bytes of the columns. Whole words are copied, since bytes would be stored one by one.
 #[inline(always)]
-#[rattlefmt::skip]
 fn bytes(state: [u32; 4]) -> [u8; 16]
     ensures { result ≡ state_bytes state }
 {
-    let a = state[0].to_be_bytes();
-    let b = state[1].to_be_bytes();
-    let c = state[2].to_be_bytes();
-    let d = state[3].to_be_bytes();
-    [
-        a[0], a[1], a[2], a[3],
-        b[0], b[1], b[2], b[3],
-        c[0], c[1], c[2], c[3],
-        d[0], d[1], d[2], d[3],
-    ]
+    let mut block = [0; 16];
+    block[..4].copy_from_slice(&state[0].to_be_bytes());
+    block[4..8].copy_from_slice(&state[1].to_be_bytes());
+    block[8..12].copy_from_slice(&state[2].to_be_bytes());
+    block[12..].copy_from_slice(&state[3].to_be_bytes());
+    block
 }

@@ -1,11 +1,11 @@
-use Rattle.std.proofs.Common.{◌≡◌, ℕ, List, ◌+◌, ◌-◌, ◌*◌, ap, ◌∙◌, arith}
+use Rattle.std.proofs.Common.{◌≡◌, ℕ, List, ◌+◌, ◌-◌, ◌*◌, ap, arith}
 use Rattle.aes_block.specs.Cipher.{add_round_key, cipher, rounds}
 use Rattle.aes_block.proofs.RoundLemmas.{rounds_step}
 use Rattle.aes_block.proofs.rounds.cipher.Goals as goal
 
 pub loop-turn-init : goal.loop-turn-init
 unfolding rounds
-loop-turn-init c = c.add_round_key-state.ensures ∙ ap (λ (b : List ℕ). add_round_key b c.args.words.now 0) c.columns.ensures
+loop-turn-init c = ap (λ (b : List ℕ). add_round_key b c.args.words.now 0) c.columns-state.ensures
 
 pub loop-turn-preserved : goal.loop-turn-preserved
 loop-turn-preserved c =

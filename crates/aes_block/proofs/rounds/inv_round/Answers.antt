@@ -1,5 +1,5 @@
 use Rattle.std.proofs.Common.{◌≡◌, ℕ, List, [], ◌∷◌, ◌++◌, slice_index, ap, ◌∙◌}
-use Rattle.aes_block.specs.Cipher.{add_round_key, inv_sub_bytes, inv_shift_rows, inv_mix_columns}
+use Rattle.aes_block.specs.Cipher.{inv_sub_bytes, inv_shift_rows, inv_mix_columns}
 use Rattle.aes_block.specs.Columns.{column_product}
 use Rattle.aes_block.specs.Field.{inv_sub_byte}
 use Rattle.aes_block.proofs.rounds.inv_round.Goals as goal
@@ -11,10 +11,8 @@ column x y z t = column_product 14 9 13 11 (inv_sub_byte (slice_index x 0) ∷ i
 pub returns : goal.returns
 unfolding inv_sub_bytes inv_shift_rows inv_mix_columns
 returns c =
-    c.add_round_key.ensures
-    ∙ ap (λ (t : List ℕ). add_round_key t c.args.inverse.now c.args.r) (
-    (λ i. c.inv_mix_substituted.ensures i ++ c.inv_mix_substituted-2.ensures i ++ c.inv_mix_substituted-3.ensures i ++ c.inv_mix_substituted-4.ensures i)
+    (λ i. c.inv_mix_substituted-first.ensures i ++ c.inv_mix_substituted-second.ensures i ++ c.inv_mix_substituted-third.ensures i ++ c.inv_mix_substituted-last.ensures i)
     ∙ (λ i. let a = c.to_be_bytes-a.ensures i in let b = c.to_be_bytes-b.ensures i in
     let p = c.to_be_bytes-c.ensures i in let d = c.to_be_bytes-d.ensures i in
     column a d p b ++ column b a d p ++ column p b a d ++ column d p b a)
-    )
+    ∙ ap (λ (x : List ℕ). inv_mix_columns (inv_shift_rows (inv_sub_bytes x))) c.add_round_key-keyed.ensures

@@ -1,5 +1,5 @@
 use Rattle.std.proofs.Common.{◌≡◌, ℕ, List, [], ◌∷◌, ◌++◌, slice_index, ap, ◌∙◌}
-use Rattle.aes_block.specs.Cipher.{add_round_key, sub_bytes, shift_rows}
+use Rattle.aes_block.specs.Cipher.{sub_bytes, shift_rows}
 use Rattle.aes_block.specs.Columns.{column_product}
 use Rattle.aes_block.specs.Field.{sub_byte}
 use Rattle.aes_block.proofs.rounds.last_round.Goals as goal
@@ -11,10 +11,8 @@ column x y z t = (sub_byte (slice_index x 0) ∷ sub_byte (slice_index y 1) ∷ 
 pub returns : goal.returns
 unfolding sub_bytes shift_rows
 returns c =
-    c.add_round_key.ensures
-    ∙ ap (λ (t : List ℕ). add_round_key t c.args.words.now c.args.r) (
     (λ i. c.substituted.ensures i ++ c.substituted-2.ensures i ++ c.substituted-3.ensures i ++ c.substituted-4.ensures i)
     ∙ (λ i. let a = c.to_be_bytes-a.ensures i in let b = c.to_be_bytes-b.ensures i in
     let p = c.to_be_bytes-c.ensures i in let d = c.to_be_bytes-d.ensures i in
     column a b p d ++ column b p d a ++ column p d a b ++ column d a b p)
-    )
+    ∙ ap (λ (x : List ℕ). shift_rows (sub_bytes x)) c.add_round_key-keyed.ensures

@@ -1,5 +1,5 @@
 use Rattle.std.proofs.Common.{◌≡◌, ℕ, List, [], ◌∷◌, ◌++◌, slice_index, ap, ◌∙◌}
-use Rattle.aes_block.specs.Cipher.{add_round_key, sub_bytes, shift_rows, mix_columns}
+use Rattle.aes_block.specs.Cipher.{sub_bytes, shift_rows, mix_columns}
 use Rattle.aes_block.specs.Columns.{column_product}
 use Rattle.aes_block.specs.Field.{sub_byte}
 use Rattle.aes_block.proofs.rounds.round.Goals as goal
@@ -11,10 +11,8 @@ column x y z t = column_product 2 1 1 3 (sub_byte (slice_index x 0) ∷ sub_byte
 pub returns : goal.returns
 unfolding sub_bytes shift_rows mix_columns
 returns c =
-    c.add_round_key.ensures
-    ∙ ap (λ (t : List ℕ). add_round_key t c.args.words.now c.args.r) (
-    (λ i. c.mix_substituted.ensures i ++ c.mix_substituted-2.ensures i ++ c.mix_substituted-3.ensures i ++ c.mix_substituted-4.ensures i)
+    (λ i. c.mix_substituted-first.ensures i ++ c.mix_substituted-second.ensures i ++ c.mix_substituted-third.ensures i ++ c.mix_substituted-last.ensures i)
     ∙ (λ i. let a = c.to_be_bytes-a.ensures i in let b = c.to_be_bytes-b.ensures i in
     let p = c.to_be_bytes-c.ensures i in let d = c.to_be_bytes-d.ensures i in
     column a b p d ++ column b p d a ++ column p d a b ++ column d a b p)
-    )
+    ∙ ap (λ (x : List ℕ). mix_columns (shift_rows (sub_bytes x))) c.add_round_key-keyed.ensures

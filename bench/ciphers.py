@@ -8,8 +8,8 @@ import pathlib
 import sys
 import time
 
-SIZE = 1 << 20
-TURNS = int(sys.argv[1]) if len(sys.argv) > 1 else 30
+SIZE = 1 << 16
+TURNS = int(sys.argv[1]) if len(sys.argv) > 1 else 300
 
 BUILD = pathlib.Path(__file__).resolve().parents[1] / "build"
 PROVED = ctypes.CDLL(str(BUILD / "libdp_c.so"))

@@ -255,15 +255,15 @@ static const uint64_t h512[8] = {
     0x510e527fade682d1u, 0x9b05688c2b3e6c1fu, 0x1f83d9abfb41bd6bu, 0x5be0cd19137e2179u,
 };
 
-#define ROUND(W, ROT, S0, S1, S2, S3, S4, S5, k, w) \
+#define STEP(W, ROT, S0, S1, S2, S3, S4, S5, k, w) \
     do { \
         W t1 = h + (ROT(e, S3) ^ ROT(e, S4) ^ ROT(e, S5)) + (g ^ (e & (f ^ g))) + (k) + (w); \
         W t2 = (ROT(a, S0) ^ ROT(a, S1) ^ ROT(a, S2)) + (b ^ ((a ^ b) & (b ^ c))); \
         h = g, g = f, f = e, e = d + t1, d = c, c = b, b = a, a = t1 + t2; \
     } while (0)
 
-#define ROUND32(k, w) ROUND(uint32_t, ROT32, 2, 13, 22, 6, 11, 25, k, w)
-#define ROUND64(k, w) ROUND(uint64_t, ROT64, 28, 34, 39, 14, 18, 41, k, w)
+#define STEP32(k, w) STEP(uint32_t, ROT32, 2, 13, 22, 6, 11, 25, k, w)
+#define STEP64(k, w) STEP(uint64_t, ROT64, 28, 34, 39, 14, 18, 41, k, w)
 
 #define NEXT32(i) \
     (w[i] += (ROT32(w[(i + 14) & 15], 17) ^ ROT32(w[(i + 14) & 15], 19) ^ w[(i + 14) & 15] >> 10) + \
@@ -274,10 +274,10 @@ static const uint64_t h512[8] = {
 
 #define FOUR(M, t, i) M(t, i); M(t, i + 1); M(t, i + 2); M(t, i + 3)
 #define SIXTEEN(M, t) FOUR(M, t, 0); FOUR(M, t, 4); FOUR(M, t, 8); FOUR(M, t, 12)
-#define FIRST32(t, i) ROUND32(k256[t + i], w[i])
-#define LATER32(t, i) ROUND32(k256[t + i], NEXT32(i))
-#define FIRST64(t, i) ROUND64(k512[t + i], w[i])
-#define LATER64(t, i) ROUND64(k512[t + i], NEXT64(i))
+#define FIRST32(t, i) STEP32(k256[t + i], w[i])
+#define LATER32(t, i) STEP32(k256[t + i], NEXT32(i))
+#define FIRST64(t, i) STEP64(k512[t + i], w[i])
+#define LATER64(t, i) STEP64(k512[t + i], NEXT64(i))
 
 // The first 32 bits of these constants are those of SHA-256.
 static uint32_t k256[64], h256[8];

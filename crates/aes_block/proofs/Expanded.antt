@@ -9,7 +9,7 @@ use Rattle.aes_block.specs.Cipher.{sub_bytes, shift_rows, mix_columns, round_key
 use Rattle.aes_block.specs.Equivalent.{IsInverseSchedule, eq_inv_cipher}
 use Rattle.aes_block.specs.KeyExpansion.{IsKeyLength, key_expansion, key_words, round_count}
 use Rattle.aes_block.proofs.Equivalent.{inv_cipher-eq_inv_cipher}
-use Rattle.aes_block.proofs.Schedule.{flat_map-first_words, key_words-few, take-first_words}
+use Rattle.aes_block.proofs.Schedule.{flat_map-first_words, take-first_words}
 
 pub round_count-known : (key : List ℕ) (nr : ℕ) → IsKeyLength (length key) → nr ≡ round_count key → (nr % 2 ≡ 0) × (10 ≤ nr) × (nr ≤ 14)
 round_count-known key nr (inl short) e = (omega arith, omega arith, omega arith)

@@ -1,10 +1,10 @@
 -- Words as lists of four bytes: their sums, and the sums of the words that tables list.
-use Rattle.std.proofs.Common.{◌≡◌, ℕ, ◌+◌, ◌*◌, ◌/◌, ◌%◌, ◌^◌, ◌<◌, List, [], ◌∷◌, ◌++◌, slice_index, refl, sym, ap, ◌∙◌, arith}
+use Rattle.std.proofs.Common.{◌≡◌, ℕ, ◌+◌, ◌*◌, ◌/◌, ◌%◌, ◌^◌, ◌<◌, List, [], ◌∷◌, ◌++◌, slice_index, refl, sym, ap, ◌∙◌}
 use Rattle.std.specs.Prelude.{bit_xor}
-use Rattle.std.specs.Int.{w32, byte_at, from_be_bytes, to_be_bytes}
+use Rattle.std.specs.Int.{w32, from_be_bytes, to_be_bytes}
 use Rattle.std.proofs.lemmas.Nat.{be_bytes_4, xor_comm, xor_mod, xor_shr}
 use Rattle.dp_base.specs.Blocks.{xor_bytes}
-use Rattle.aes_block.specs.Cipher.{add_round_key, round_key}
+use Rattle.aes_block.specs.Cipher.{add_round_key}
 use Rattle.aes_block.specs.Columns.{column_product, products_word, state_bytes}
 use Rattle.aes_block.specs.Field.{times}
 use Rattle.aes_block.specs.Laws.Bytes.{AreBytes-four}

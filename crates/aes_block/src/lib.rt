@@ -11,3 +11,4 @@ mod tables;
 mod tests;
 
 pub use aes::{Aes, BadKeyLength};
+pub use s_box::bytes_have_inverses;

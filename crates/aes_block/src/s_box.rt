@@ -1,7 +1,7 @@
-//! The two S-boxes (FIPS 197, 5.1.1 and 5.3.2).
+//! The two S-boxes (FIPS 197, 5.1.1 and 5.3.2), and the inverse that they take.
 
-ghost use Rattle.std.specs.Prelude.{◌≡◌};
-ghost use Rattle.aes_block.specs.Field.{inv_sub_byte, sub_byte};
+ghost use Rattle.std.specs.Prelude.{◌≡◌, ◌<◌, ◌≤◌, ℕ};
+ghost use Rattle.aes_block.specs.Field.{inv_sub_byte, inverse, sub_byte, times};
 
 // The S-box (FIPS 197, 5.1.1): row x and column y have the value of the byte xy.
 #[rattlefmt::skip]
@@ -58,3 +58,8 @@ pub(crate) fn inv_sub_byte(b: u8) -> u8
 {
     INV_S_BOX[b as usize]
 }
+
+/// Every byte but 0 has a product of 1 with its inverse (FIPS 197, 4.4).
+pub fn bytes_have_inverses()
+    ensures { (b : ℕ) → 1 ≤ b → b < 256 → times b (inverse b) ≡ 1 }
+{}

@@ -1,4 +1,4 @@
-use Rattle.std.proofs.Common.{◌≡◌, ◌<◌, ℕ, List, [], ◌∷◌, slice_index, ap, ◌∙◌, arith, mod-lt, lit<}
+use Rattle.std.proofs.Common.{◌≡◌, ℕ, [], ◌∷◌, slice_index, ◌∙◌}
 use Rattle.std.specs.Int.{w32, to_be_bytes}
 use Rattle.aes_block.specs.Columns.{column_product}
 use Rattle.aes_block.specs.Field.{sub_byte, inv_sub_byte}

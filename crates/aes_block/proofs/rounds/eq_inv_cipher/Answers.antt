@@ -1,4 +1,4 @@
-use Rattle.std.proofs.Common.{◌≡◌, ℕ, List, ◌+◌, ◌-◌, ◌*◌, ap, arith}
+use Rattle.std.proofs.Common.{◌≡◌, ◌+◌, ◌-◌, ◌*◌, arith}
 use Rattle.aes_block.specs.Cipher.{add_round_key}
 use Rattle.aes_block.specs.Columns.{state_bytes}
 use Rattle.aes_block.specs.Equivalent.{eq_inv_cipher, eq_inv_rounds}

@@ -1,6 +1,5 @@
-use Rattle.std.proofs.Common.{◌≡◌, ℕ, List, [], ◌∷◌, ◌++◌, slice_index, ap, ◌∙◌}
+use Rattle.std.proofs.Common.{ℕ, List, [], ◌∷◌, ◌++◌, slice_index, ap, ◌∙◌}
 use Rattle.aes_block.specs.Cipher.{inv_sub_bytes, inv_shift_rows}
-use Rattle.aes_block.specs.Columns.{column_product}
 use Rattle.aes_block.specs.Field.{inv_sub_byte}
 use Rattle.aes_block.proofs.rounds.last_inv_round.Goals as goal
 

@@ -1,6 +1,5 @@
-use Rattle.std.proofs.Common.{◌≡◌, ℕ, List, [], ◌∷◌, ◌++◌, slice_index, ap, ◌∙◌}
+use Rattle.std.proofs.Common.{ℕ, List, [], ◌∷◌, ◌++◌, slice_index, ap, ◌∙◌}
 use Rattle.aes_block.specs.Cipher.{sub_bytes, shift_rows}
-use Rattle.aes_block.specs.Columns.{column_product}
 use Rattle.aes_block.specs.Field.{sub_byte}
 use Rattle.aes_block.proofs.rounds.last_round.Goals as goal
 

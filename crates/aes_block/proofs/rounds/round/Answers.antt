@@ -1,4 +1,4 @@
-use Rattle.std.proofs.Common.{◌≡◌, ℕ, List, [], ◌∷◌, ◌++◌, slice_index, ap, ◌∙◌}
+use Rattle.std.proofs.Common.{ℕ, List, [], ◌∷◌, ◌++◌, slice_index, ap, ◌∙◌}
 use Rattle.aes_block.specs.Cipher.{sub_bytes, shift_rows, mix_columns}
 use Rattle.aes_block.specs.Columns.{column_product}
 use Rattle.aes_block.specs.Field.{sub_byte}

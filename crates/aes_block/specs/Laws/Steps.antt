@@ -7,7 +7,9 @@ use Rattle.std.specs.List.{range_with_len}
 use Rattle.dp_base.specs.Blocks.{AreBytes, IsBlock, xor_bytes}
 use Rattle.aes_block.specs.Field.{xtime, times_bits, times, even_power, inverse, affine, sub_byte, inv_affine, inv_sub_byte}
 use Rattle.aes_block.specs.Cipher.{state_byte, product_at, state_of, sub_bytes, shift_rows, mix_columns, round_key, add_round_key, inv_shift_rows, inv_sub_bytes, inv_mix_columns}
-use Rattle.aes_block.specs.Laws.Bytes.{AreBytes-append, AreBytes-map, AreBytes-map_all, AreBytes-to_be_bytes, AreBytes-xor_bytes, length-xor_bytes, listed, map-map, xor_bytes-xor_bytes}
+use Rattle.dp_base.proofs.Parts.{AreBytes-append}
+use Rattle.dp_base.proofs.Sums.{IsBlock-xor, xor_bytes-twice}
+use Rattle.aes_block.specs.Laws.Bytes.{AreBytes-map, AreBytes-map_all, AreBytes-to_be_bytes, listed, map-map}
 use Rattle.aes_block.specs.Laws.Columns.{Undoes, first_of, first_of-first_of, first_of-lt, first_of-xor, remixes, unmixes}
 use Rattle.aes_block.specs.Laws.Tables.{same_in_table}
 
@@ -151,10 +153,8 @@ IsBlock-round_key w r =
 
 pub IsBlock-add_round_key : (s w : List ℕ) (r : ℕ) → IsBlock s → IsBlock (add_round_key s w r)
 unfolding add_round_key
-IsBlock-add_round_key s w r h =
-    let key = IsBlock-round_key w r in
-    (length-xor_bytes s (round_key w r) h.0 ∙ h.0, AreBytes-xor_bytes s (round_key w r) h.1 key.1)
+IsBlock-add_round_key s w r h = IsBlock-xor s (round_key w r) h (IsBlock-round_key w r)
 
 pub add_round_key-add_round_key : (s w : List ℕ) (r : ℕ) → IsBlock s → add_round_key (add_round_key s w r) w r ≡ s
 unfolding add_round_key
-add_round_key-add_round_key s w r h = xor_bytes-xor_bytes s (round_key w r) h.0
+add_round_key-add_round_key s w r h = xor_bytes-twice s (round_key w r) h.0

@@ -1,4 +1,4 @@
-"""The NIST sets for AES in CBC, and RFC 4231 for HMAC, from Debian's package
+"""AES in CBC by SP 800-38A; and the NIST sets for AES in CBC, and RFC 4231 for HMAC, from Debian's package
 python3-cryptography-vectors."""
 
 import importlib.util
@@ -6,6 +6,42 @@ import pathlib
 import sys
 
 import library
+
+
+# SP 800-38A of 2001, F.2.1 to F.2.6: the vector, the text of four blocks, and each key with its body.
+IV = "000102030405060708090a0b0c0d0e0f"
+TEXT = (
+    "6bc1bee22e409f96e93d7e117393172aae2d8a571e03ac9c9eb76fac45af8e51"
+    "30c81c46a35ce411e5fbc1191a0a52eff69f2445df4f9b17ad2b417be66c3710"
+)
+PUBLISHED = [
+    (
+        "2b7e151628aed2a6abf7158809cf4f3c",
+        "7649abac8119b246cee98e9b12e9197d5086cb9b507219ee95db113a917678b2"
+        "73bed6b8e3c1743b7116e69e222295163ff1caa1681fac09120eca307586e1a7",
+    ),
+    (
+        "8e73b0f7da0e6452c810f32b809079e562f8ead2522c6b7b",
+        "4f021db243bc633d7178183a9fa071e8b4d9ada9ad7dedf4e5e738763f69145a"
+        "571b242012fb7ae07fa9baac3df102e008b0e27988598881d920a9e64f5615cd",
+    ),
+    (
+        "603deb1015ca71be2b73aef0857d77811f352c073b6108d72d9810a30914dff4",
+        "f58c4c04d6e5f1ba779eabfb5f7bfbd69cfc4e967edb808d679f777bc6702c7d"
+        "39f23369a9d9bacfa530e26304231461b2eb05e2c39be9fcda6c19078c6a9d1b",
+    ),
+]
+
+
+def published():
+    iv, text = bytes.fromhex(IV), bytes.fromhex(TEXT)
+    for key, body in PUBLISHED:
+        key, body = bytes.fromhex(key), bytes.fromhex(body)
+        answer, sealed = library.cbc_seal(key, iv, text)
+        # The values have no padding: their blocks are the front of the padded text's.
+        assert answer == "done" and sealed[: len(text)] == body, key.hex()
+        assert library.cbc_open(key, iv, sealed) == ("done", text), key.hex()
+    print(f"vectors: SP 800-38A, F.2, {len(PUBLISHED)} passed")
 
 
 def sets():
@@ -66,6 +102,7 @@ def keyed(folder, size):
 
 
 def main():
+    published()
     folder = sets()
     if folder is None:
         print("vectors: skipped, since python3-cryptography-vectors isn't installed")

@@ -1,13 +1,20 @@
 -- An array that begins with the schedule of a key serves as that schedule, and gives the key back.
-use Rattle.std.proofs.Common.{◌≡◌, ℕ, zero, suc, ◌+◌, ◌-◌, ◌*◌, ◌≤◌, List, length, take, refl, sym, ap, ◌∙◌, arith, inl, inr}
+use Rattle.std.proofs.Common.{◌≡◌, ℕ, zero, suc, ◌+◌, ◌-◌, ◌*◌, ◌%◌, ◌≤◌, List, length, take, refl, sym, ap, subst, ◌∙◌, arith, inl, inr}
 use Rattle.std.specs.Int.{w32, to_be_bytes}
 use Rattle.std.specs.List.{flat_map}
 use Rattle.std.proofs.lemmas.List.{get_or-take, take-take, take_all}
-use Rattle.dp_base.specs.Blocks.{AreBytes, xor_bytes}
+use Rattle.dp_base.specs.Blocks.{AreBytes, IsBlock, xor_bytes}
 use Rattle.aes_block.specs.Aes.{IsExpanded, key_of}
 use Rattle.aes_block.specs.Cipher.{sub_bytes, shift_rows, mix_columns, round_key, add_round_key, rounds, cipher, inv_shift_rows, inv_sub_bytes, inv_mix_columns, inv_rounds, inv_cipher, aes_cipher, aes_decipher}
+use Rattle.aes_block.specs.Equivalent.{IsInverseSchedule, eq_inv_cipher}
 use Rattle.aes_block.specs.KeyExpansion.{IsKeyLength, key_expansion, key_words, round_count}
-use Rattle.aes_block.proofs.Schedule.{flat_map-first_words, key_words-few, take-first_words}
+use Rattle.aes_block.proofs.Equivalent.{inv_cipher-eq_inv_cipher}
+use Rattle.aes_block.proofs.Schedule.{flat_map-first_words, take-first_words}
+
+pub round_count-known : (key : List ℕ) (nr : ℕ) → IsKeyLength (length key) → nr ≡ round_count key → (nr % 2 ≡ 0) × (10 ≤ nr) × (nr ≤ 14)
+round_count-known key nr (inl short) e = (omega arith, omega arith, omega arith)
+round_count-known key nr (inr (inl middle)) e = (omega arith, omega arith, omega arith)
+round_count-known key nr (inr (inr long)) e = (omega arith, omega arith, omega arith)
 
 -- two schedules with the same round keys up to n
 module _ (w v : List ℕ) (n : ℕ) (same : (r : ℕ) → r ≤ n → round_key w r ≡ round_key v r) where
@@ -49,18 +56,23 @@ round_key-take w n r h =
     rw (get_or-take m w (4 * r) 0 (omega arith), get_or-take m w (4 * r + 1) 0 (omega arith), get_or-take m w (4 * r + 2) 0 (omega arith), get_or-take m w (4 * r + 3) 0 (omega arith))
     refl
 
-pub cipher-expanded : (words : List ℕ) (count : ℕ) (b : List ℕ) → IsExpanded words count → cipher b count words ≡ aes_cipher (key_of words count) b
+pub cipher-expanded : (words inverse : List ℕ) (nr : ℕ) (b : List ℕ) → IsExpanded words inverse nr → cipher b nr words ≡ aes_cipher (key_of words nr) b
 unfolding aes_cipher
-cipher-expanded words count b e =
-    cipher-same words (take (4 * (count + 1)) words) count (λ r h. round_key-take words count r h) b
+cipher-expanded words inverse nr b e =
+    cipher-same words (take (4 * (nr + 1)) words) nr (λ r h. round_key-take words nr r h) b
     ∙ (λ i. cipher b (e.counted i) (e.scheduled i))
 
-pub inv_cipher-expanded : (words : List ℕ) (count : ℕ) (b : List ℕ) → IsExpanded words count
-    → inv_cipher b count words ≡ aes_decipher (key_of words count) b
+pub inv_cipher-expanded : (words inverse : List ℕ) (nr : ℕ) (b : List ℕ) → IsExpanded words inverse nr → IsBlock b
+    → eq_inv_cipher b nr inverse ≡ aes_decipher (key_of words nr) b
 unfolding aes_decipher
-inv_cipher-expanded words count b e =
-    inv_cipher-same words (take (4 * (count + 1)) words) count (λ r h. round_key-take words count r h) b
+inv_cipher-expanded words inverse nr b e block =
+    inv_cipher-eq_inv_cipher words inverse nr e.inverted b (omega (arith, e.counted)) block
+    ∙ inv_cipher-same words (take (4 * (nr + 1)) words) nr (λ r h. round_key-take words nr r h) b
     ∙ (λ i. inv_cipher b (e.counted i) (e.scheduled i))
+
+-- 10, 12 or 14 rounds
+pub rounds-known : (words inverse : List ℕ) (nr : ℕ) → IsExpanded words inverse nr → (nr % 2 ≡ 0) × (10 ≤ nr) × (nr ≤ 14)
+rounds-known words inverse nr e = round_count-known (key_of words nr) nr e.sized e.counted
 
 key_length : (key : List ℕ) → IsKeyLength (length key) → length key ≡ 4 * key_words key
 key_length key (inl short) = omega arith
@@ -81,9 +93,14 @@ key_of-schedule key words sized bytes held =
     ∙ flat_map-first_words key n bytes (omega arith)
     ∙ take_all (4 * n) key (omega arith)
 
-pub IsExpanded-schedule : (key words : List ℕ) → IsKeyLength (length key) → AreBytes key
-    → take (4 * (round_count key + 1)) words ≡ key_expansion key → IsExpanded words (round_count key)
-IsExpanded-schedule key words sized bytes held =
+pub IsExpanded-schedule : (key words inverse : List ℕ) → IsKeyLength (length key) → AreBytes key
+    → take (4 * (round_count key + 1)) words ≡ key_expansion key → IsInverseSchedule words inverse (round_count key)
+    → IsExpanded words inverse (round_count key)
+IsExpanded-schedule key words inverse sized bytes held inverted =
     let same = key_of-schedule key words sized bytes held in
-    let few = key_words-few key sized in
-    record { few = omega arith; counted = ap round_count (sym same); scheduled = held ∙ ap key_expansion (sym same) }
+    record {
+      sized = subst (λ (k : List ℕ). IsKeyLength (length k)) (sym same) sized;
+      counted = ap round_count (sym same);
+      scheduled = held ∙ ap key_expansion (sym same);
+      inverted = inverted;
+    }

@@ -1,17 +1,10 @@
 -- The definitions on the standard's own examples, by computing, so that a wrong step of theirs does not
--- check (FIPS 197 of 2001, appendices A and C).
-use Rattle.std.proofs.Common.{◌≡◌, ℕ, ◌+◌, ◌<◌, List, [], ◌∷◌, slice_index, refl}
+-- check (FIPS 197 of 2001, 5.1.1 and appendices A and C).
+use Rattle.std.proofs.Common.{◌≡◌, ℕ, List, [], ◌∷◌, slice_index, refl}
 use Rattle.aes_block.specs.Field.{xtime, times_bits, times, even_power, inverse, affine, sub_byte, inv_affine, inv_sub_byte}
 use Rattle.aes_block.specs.KeyExpansion.{rot_word, sub_word, power_of_x, rcon, added_word, next_word, first_words, key_expansion}
-use Rattle.dp_base.specs.Blocks.{xor_bytes}
 use Rattle.aes_block.specs.Cipher.{sub_bytes, shift_rows, mix_columns, add_round_key, rounds, cipher, inv_shift_rows, inv_sub_bytes, inv_mix_columns, inv_rounds, inv_cipher, aes_cipher, aes_decipher}
 use Rattle.std.specs.List.{range_with_len}
-use Rattle.aes_block.specs.Laws.Tables.{same_in_table}
-
--- each byte but 0 has a product of 1 with its inverse
-pub times-inverse : (b : ℕ) → b < 255 → times (b + 1) (inverse (b + 1)) ≡ 1
-unfolding xtime times_bits times even_power inverse
-times-inverse b h = same_in_table (λ b. times (b + 1) (inverse (b + 1))) (λ b. 1) 255 refl b h
 
 pub sub_byte-53 : sub_byte 0x53 ≡ 0xED
 unfolding xtime times_bits times even_power inverse affine sub_byte

@@ -1,6 +1,7 @@
+pub mod Equivalent
 pub mod Expanded
 pub mod Facts
-pub mod InPlace
-pub mod Multiples
 pub mod RoundLemmas
+pub mod Rows
 pub mod Schedule
+pub mod Words

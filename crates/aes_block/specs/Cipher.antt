@@ -1,6 +1,6 @@
--- The cipher and its inverse (FIPS 197, 5.1 and 5.3) on lists. A block and a state are lists of 16
+-- The cipher and its inverse (FIPS 197, update 1 of 2023, 5.1 and 5.3) on lists. A block and a state are lists of 16
 -- bytes, column after column (3.4), and section numbers are the standard's.
-use Rattle.std.specs.Prelude.{ℕ, zero, suc, ◌+◌, ◌-◌, ◌*◌, ◌/◌, ◌%◌, List, [], ◌∷◌, ◌++◌, map, bit_xor, slice_index}
+use Rattle.std.specs.Prelude.{ℕ, zero, suc, ◌+◌, ◌-◌, ◌*◌, ◌/◌, ◌%◌, List, ◌++◌, map, bit_xor, slice_index}
 use Rattle.std.specs.Int.{w32, to_be_bytes}
 use Rattle.std.specs.List.{range_with_len}
 use Rattle.dp_base.specs.Blocks.{xor_bytes}
@@ -24,11 +24,11 @@ unfoldable pub shift_rows : List ℕ → List ℕ
 shift_rows s = state_of (λ r c. state_byte s r ((c + r) % 4))
 
 -- coefficient r of the product of the polynomial a0 + a1 x + a2 x^2 + a3 x^3 and that of column c,
--- modulo x^4 + 1 (5.1.3)
+-- modulo x^4 + 1 (4.3)
 abbrev pub product_at : ℕ → ℕ → ℕ → ℕ → List ℕ → ℕ → ℕ → ℕ
 product_at a0 a1 a2 a3 s r c =
-    bit_xor (bit_xor (times a0 (state_byte s r c)) (times a1 (state_byte s ((r + 3) % 4) c)))
-    (bit_xor (times a2 (state_byte s ((r + 2) % 4) c)) (times a3 (state_byte s ((r + 1) % 4) c)))
+    bit_xor (bit_xor (times a0 (state_byte s r c)) (times a3 (state_byte s ((r + 1) % 4) c)))
+    (bit_xor (times a2 (state_byte s ((r + 2) % 4) c)) (times a1 (state_byte s ((r + 3) % 4) c)))
 
 -- MixColumns: each column times 3 x^3 + x^2 + x + 2 (5.1.3)
 unfoldable pub mix_columns : List ℕ → List ℕ
@@ -39,7 +39,7 @@ abbrev pub round_key : List ℕ → ℕ → List ℕ
 round_key w r = to_be_bytes w32 (slice_index w (4 * r)) ++ to_be_bytes w32 (slice_index w (4 * r + 1))
     ++ to_be_bytes w32 (slice_index w (4 * r + 2)) ++ to_be_bytes w32 (slice_index w (4 * r + 3))
 
--- AddRoundKey, with the schedule and the number of the round (5.1.4)
+-- AddRoundKey, with the schedule and the number of the round; of a longer state it keeps 16 bytes (5.1.4)
 unfoldable pub add_round_key : List ℕ → List ℕ → ℕ → List ℕ
 add_round_key s w r = xor_bytes s (round_key w r)
 

@@ -35,8 +35,9 @@ affine b = bit_xor (bit_xor (bit_xor (bit_xor (bit_xor b (rotate_left w8 b 4)) (
 unfoldable pub sub_byte : ℕ → ℕ
 sub_byte b = affine (inverse b)
 
--- the inverse of the affine map: bit i is the sum of the bits i + 2, i + 5 and i + 7, modulo 8, and of
--- bit i of 05 (5.3.2)
+-- the inverse of the affine map, which the standard leaves to the reader: bit i is the sum of the bits
+-- i + 2, i + 5 and i + 7, modulo 8, and of bit i of 05. It is derived, and pinned by the laws
+-- `inv_sub_byte-sub_byte` and `sub_byte-inv_sub_byte`
 unfoldable pub inv_affine : ℕ → ℕ
 inv_affine b = bit_xor (bit_xor (bit_xor (rotate_left w8 b 6) (rotate_left w8 b 3)) (rotate_left w8 b 1)) 0x05
 

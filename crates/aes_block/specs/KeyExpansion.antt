@@ -1,4 +1,4 @@
--- The key expansion (FIPS 197, 5.2). A key is a list of bytes, and a word is a number below 2 ^ 32,
+-- The key expansion (FIPS 197, update 1 of 2023, 5.2). A key is a list of bytes, and a word is a number below 2 ^ 32,
 -- whose high byte is the standard's first.
 use Rattle.std.specs.Prelude.{◌≡◌, ◌⊎◌, ℕ, zero, suc, ◌+◌, ◌-◌, ◌*◌, ◌/◌, ◌%◌, ◌^◌, ◌==◌, ◌&&◌, if◌then◌else◌, List, [], ◌∷◌, ◌++◌, length, map, bit_xor, nat_lt, slice_index}
 use Rattle.std.specs.Int.{w32, rotate_left, from_be_bytes, to_be_bytes}
@@ -8,7 +8,7 @@ use Rattle.aes_block.specs.Field.{sub_byte, xtime}
 abbrev pub IsKeyLength : ℕ → Type 0
 IsKeyLength n = (n ≡ 16) ⊎ ((n ≡ 24) ⊎ (n ≡ 32))
 
--- Nk, the words of a key (5)
+-- Nk, the words of a key, which leave out a last part of a word (5)
 abbrev pub key_words : List ℕ → ℕ
 key_words key = length key / 4
 

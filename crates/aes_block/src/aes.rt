@@ -3,8 +3,8 @@
 ghost use Rattle.std.specs.Prelude.{◌≡◌, ◌↔◌, length, IsOk, IfOk};
 ghost use Rattle.aes_block.specs.KeyExpansion.{IsKeyLength};
 
-use crate::expansion::expand;
-use crate::rounds::{decipher, encipher};
+use crate::expansion::{Schedule, key_expansion, key_expansion_eic};
+use crate::rounds::{cipher, eq_inv_cipher};
 use dp_base::BlockCipher;
 use std::marker::Model;
 use thiserror::Error;
@@ -14,16 +14,18 @@ use thiserror::Error;
 #[error("a key of AES has 16, 24 or 32 bytes")]
 pub struct BadKeyLength;
 
-/// AES under one key (FIPS 197), which is expanded once.
+/// AES under one key (FIPS 197), which is expanded once for each way.
 ///
 /// It reads tables at places that depend on the key and the text, so its time may tell of both to who
 /// shares the machine: it doesn't run in constant time.
 #[derive(Drop)]
 pub struct Aes {
-    // The schedule of the key, in front of words that no round takes.
-    words: [u32; 60],
-    // The rounds: 10, 12 or 14.
-    count: usize,
+    // The schedule of the key.
+    words: Schedule,
+    // The schedule of the equivalent inverse cipher.
+    inverse: Schedule,
+    // 10, 12 or 14.
+    rounds: usize,
 }
 
 // Clauses see the bytes of the key.
@@ -33,9 +35,9 @@ impl Model for Aes {
 
     ghost Value = { List ℕ };
 
-    ghost view = { λ a. key_of a.words a.count };
+    ghost view = { λ a. key_of a.words a.rounds };
 
-    ghost invariant = { λ a. IsExpanded a.words a.count };
+    ghost invariant = { λ a. IsExpanded a.words a.inverse a.rounds };
 }
 
 impl Aes {
@@ -45,10 +47,16 @@ impl Aes {
         ensures value { IfOk result (λ aes. aes ≡ key.now) }
     {
         match key.len() {
-            16 | 24 | 32 => Ok(Aes {
-                words: expand(key),
-                count: key.len() / 4 + 6,
-            }),
+            16 | 24 | 32 => {
+                let rounds = key.len() / 4 + 6;
+                let words = key_expansion(key, rounds);
+                let inverse = key_expansion_eic(&words, rounds);
+                Ok(Aes {
+                    words,
+                    inverse,
+                    rounds,
+                })
+            }
             _ => Err(BadKeyLength),
         }
     }
@@ -64,11 +72,11 @@ impl BlockCipher for Aes {
     ghost decipher = { aes_decipher };
 
     fn encrypt_block(&self, block: &mut [u8; 16]) {
-        encipher(block, &self.words, self.count);
+        cipher(block, &self.words, self.rounds);
     }
 
     fn decrypt_block(&self, block: &mut [u8; 16]) {
-        decipher(block, &self.words, self.count);
+        eq_inv_cipher(block, &self.inverse, self.rounds);
     }
 
     ghost enciphers = { IsBlock-aes_cipher };

@@ -3,10 +3,12 @@
 
 mod aes;
 mod expansion;
-mod field;
+mod inv_tables;
 mod rounds;
-mod steps;
+mod s_box;
+mod tables;
 #[cfg(test)]
 mod tests;
 
 pub use aes::{Aes, BadKeyLength};
+pub use s_box::bytes_have_inverses;

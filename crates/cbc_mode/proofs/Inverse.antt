@@ -1,9 +1,10 @@
 -- CBC decryption and encryption undo each other, where a cipher and its inverse do.
 use Rattle.std.proofs.Common.{◌≡◌, ℕ, suc, ◌%◌, ◌<◌, ◌≤◌, List, [], ◌∷◌, ◌++◌, length, take, drop, refl, ap, arith}
 use Rattle.dp_base.specs.Blocks.{AreBytes, IsBlock, xor_bytes}
-use Rattle.cbc_mode.specs.Cbc.{cbc, cbc_inverse, blocks, ciphertext, plaintext}
-use Rattle.cbc_mode.proofs.Xor.{IsBlock-xor, xor_bytes-twice}
-use Rattle.cbc_mode.proofs.Blocks.{AreBlocks, AreBlocks-blocks, blocks-cons, blocks-short, blocks-concat, concat-blocks, length-concat, AreBytes-concat}
+use Rattle.dp_base.specs.Split.{blocks}
+use Rattle.cbc_mode.specs.Cbc.{cbc, cbc_inverse, ciphertext, plaintext}
+use Rattle.dp_base.proofs.Sums.{IsBlock-xor, xor_bytes-twice}
+use Rattle.dp_base.proofs.Split.{AreBlocks, AreBlocks-blocks, blocks-cons, blocks-short, blocks-concat, concat-blocks, length-concat, AreBytes-concat}
 
 -- f and g keep blocks blocks, and each undoes the other
 pub record AreInverse (f g : List ℕ → List ℕ) : Type 0 where

@@ -3,7 +3,7 @@ use Rattle.std.proofs.Common.{◌≡◌, ℕ, ◌+◌, ◌-◌, ◌%◌, ◌<◌
 use Rattle.std.proofs.lemmas.List.{length-replicate, length-take-le, take-append-drop, take_at, drop_at, get_or-append-add, get_or-replicate}
 use Rattle.dp_base.specs.Blocks.{AreBytes}
 use Rattle.cbc_mode.specs.Pad.{pad_len, pad, last_byte, IsPadded}
-use Rattle.cbc_mode.proofs.Bytes.{AreBytes-append, AreBytes-replicate}
+use Rattle.dp_base.proofs.Parts.{AreBytes-append, AreBytes-replicate}
 
 pub pad_len-bounds : (text : List ℕ) → (1 ≤ pad_len text) × (pad_len text ≤ 16)
 pad_len-bounds text = (omega arith, omega arith)

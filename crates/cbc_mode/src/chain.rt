@@ -4,7 +4,7 @@ ghost use Rattle.std.specs.Prelude.{◌≡◌, ◌%◌, length};
 ghost use Rattle.dp_base.specs.Blocks.{xor_bytes};
 ghost use Rattle.cbc_mode.specs.Cbc.{ciphertext, plaintext};
 
-use dp_base::BlockCipher;
+use dp_base::{BlockCipher, xor_into};
 
 // Enciphers whole blocks from the front.
 pub fn encrypt_blocks<B: BlockCipher>(cipher: &B, iv: &[u8; 16], bytes: &mut [u8])
@@ -36,12 +36,9 @@ fn encrypt_next<B: BlockCipher>(cipher: &B, before: &mut [u8; 16], block: &mut [
     ensures block { block.new ≡ B.cipher cipher.now (xor_bytes block.old before.old) }
     ensures before { before.new ≡ block.new }
 {
-    let mut work = [0; 16];
-    work.copy_from_slice(block);
-    xor_into(&mut work, before);
-    cipher.encrypt_block(&mut work);
-    block.copy_from_slice(&work);
-    *before = work;
+    xor_into(before, block);
+    cipher.encrypt_block(before);
+    block.copy_from_slice(before);
 }
 
 // Deciphers the block after the block before it, which it is then before the next.
@@ -50,20 +47,10 @@ fn decrypt_next<B: BlockCipher>(cipher: &B, before: &mut [u8; 16], block: &mut [
     ensures block { block.new ≡ xor_bytes (B.decipher cipher.now block.old) before.old }
     ensures before { before.new ≡ block.old }
 {
-    let mut taken = [0; 16];
-    taken.copy_from_slice(block);
-    let mut work = taken;
-    cipher.decrypt_block(&mut work);
-    xor_into(&mut work, before);
-    block.copy_from_slice(&work);
-    *before = taken;
-}
-
-// The block xor the other.
-fn xor_into(block: &mut [u8; 16], other: &[u8; 16])
-    ensures { block.new ≡ xor_bytes block.old other.now }
-{
-    for i in 0..16 {
-        block[i] ^= other[i];
-    }
+    let mut text = [0; 16];
+    text.copy_from_slice(block);
+    cipher.decrypt_block(&mut text);
+    xor_into(&mut text, before);
+    before.copy_from_slice(block);
+    block.copy_from_slice(&text);
 }

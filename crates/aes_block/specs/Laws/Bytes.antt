@@ -1,12 +1,9 @@
 -- Lists of bytes: what keeps every number a byte, and what gives a list back.
-use Rattle.std.proofs.Common.{◌≡◌, ℕ, zero, suc, ◌<◌, List, [], ◌∷◌, ◌++◌, length, map, slice_index, refl, ap, ◌∙◌, arith, lit<, mod-lt}
-use Rattle.std.specs.Prelude.{bit_xor}
+use Rattle.std.proofs.Common.{◌≡◌, ℕ, zero, suc, ◌<◌, List, [], ◌∷◌, ◌++◌, length, map, slice_index, refl, arith, lit<, mod-lt}
 use Rattle.std.specs.List.{range_with_len}
 use Rattle.std.specs.Int.{w32, byte_at, bytes_high_first, to_be_bytes}
 use Rattle.std.proofs.lemmas.List.{append_assoc, get_or_at, length_push}
-use Rattle.std.proofs.lemmas.Nat.{xor_lt}
-use lib.Bits.{xor_assoc, xor_self, xor_zero_r}
-use Rattle.dp_base.specs.Blocks.{AreBytes, xor_bytes}
+use Rattle.dp_base.specs.Blocks.{AreBytes}
 
 pub AreBytes-nil : AreBytes []
 AreBytes-nil i = lit< tt
@@ -18,10 +15,6 @@ AreBytes-cons x xs h hs (suc i) = hs i
 pub AreBytes-four : (a b c d : ℕ) → a < 256 → b < 256 → c < 256 → d < 256 → AreBytes (a ∷ b ∷ c ∷ d ∷ [])
 AreBytes-four a b c d ha hb hc hd =
     AreBytes-cons a (b ∷ c ∷ d ∷ []) ha (AreBytes-cons b (c ∷ d ∷ []) hb (AreBytes-cons c (d ∷ []) hc (AreBytes-cons d [] hd AreBytes-nil)))
-
-pub AreBytes-append : (xs ys : List ℕ) → AreBytes xs → AreBytes ys → AreBytes (xs ++ ys)
-AreBytes-append [] ys hx hy = hy
-AreBytes-append (x ∷ xs) ys hx hy = AreBytes-cons x (xs ++ ys) (hx 0) (AreBytes-append xs ys (λ i. hx (suc i)) hy)
 
 -- where f gives bytes for all numbers
 pub AreBytes-map_all : (f : ℕ → ℕ) → ((x : ℕ) → f x < 256) → (xs : List ℕ) → AreBytes (map f xs)
@@ -47,26 +40,6 @@ AreBytes-bytes_high_first (suc k) n = AreBytes-cons (byte_at k n) (bytes_high_fi
 
 pub AreBytes-to_be_bytes : (word : ℕ) → AreBytes (to_be_bytes w32 word)
 AreBytes-to_be_bytes word = AreBytes-bytes_high_first 4 word
-
-pub length-xor_bytes : (xs ys : List ℕ) → length xs ≡ length ys → length (xor_bytes xs ys) ≡ length xs
-length-xor_bytes [] ys h = refl
-length-xor_bytes (x ∷ xs) [] h = absurd (omega arith)
-length-xor_bytes (x ∷ xs) (y ∷ ys) h = ap suc (length-xor_bytes xs ys (omega arith))
-
-pub AreBytes-xor_bytes : (xs ys : List ℕ) → AreBytes xs → AreBytes ys → AreBytes (xor_bytes xs ys)
-AreBytes-xor_bytes [] ys hx hy = AreBytes-nil
-AreBytes-xor_bytes (x ∷ xs) [] hx hy = AreBytes-nil
-AreBytes-xor_bytes (x ∷ xs) (y ∷ ys) hx hy =
-    AreBytes-cons (bit_xor x y) (xor_bytes xs ys) (xor_lt 8 x y (hx 0) (hy 0))
-    (AreBytes-xor_bytes xs ys (λ i. hx (suc i)) (λ i. hy (suc i)))
-
-pub xor_bytes-xor_bytes : (xs ys : List ℕ) → length xs ≡ length ys → xor_bytes (xor_bytes xs ys) ys ≡ xs
-xor_bytes-xor_bytes [] ys h = refl
-xor_bytes-xor_bytes (x ∷ xs) [] h = absurd (omega arith)
-xor_bytes-xor_bytes (x ∷ xs) (y ∷ ys) h =
-    let first : bit_xor (bit_xor x y) y ≡ x = xor_assoc x y y ∙ ap (λ (z : ℕ). bit_xor x z) (xor_self y) ∙ xor_zero_r x in
-    let rest = xor_bytes-xor_bytes xs ys (omega arith) in
-    λ i. first i ∷ rest i
 
 listed_from : (n : ℕ) (before xs : List ℕ) → length xs ≡ n → map (λ i. slice_index (before ++ xs) i) (range_with_len (length before) n) ≡ xs
 listed_from zero before [] h = refl

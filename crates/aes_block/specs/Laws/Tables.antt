@@ -8,7 +8,7 @@ abbrev pub table_of : (ℕ → ℕ) → ℕ → List ℕ
 table_of f zero = []
 table_of f (suc n) = table_of f n ++ f n ∷ []
 
-length-table_of : (f : ℕ → ℕ) (n : ℕ) → length (table_of f n) ≡ n
+pub length-table_of : (f : ℕ → ℕ) (n : ℕ) → length (table_of f n) ≡ n
 length-table_of f zero = refl
 length-table_of f (suc n) = omega (arith, length_push (table_of f n) (f n), length-table_of f n)
 

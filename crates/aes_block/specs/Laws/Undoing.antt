@@ -50,7 +50,7 @@ module _ (w : List ℕ) where
   IsBlock-rounds b zero h = IsBlock-add_round_key b w 0 h
   IsBlock-rounds b (suc r) h = IsBlock-forth (spread (rounds b w r)) (suc r) (IsBlock-spread (rounds b w r) (IsBlock-rounds b r h))
 
-  IsBlock-inv_rounds : (s : List ℕ) (r : ℕ) → IsBlock s → IsBlock (inv_rounds s w r)
+  pub IsBlock-inv_rounds : (s : List ℕ) (r : ℕ) → IsBlock s → IsBlock (inv_rounds s w r)
   unfolding inv_rounds
   IsBlock-inv_rounds s zero h = h
   IsBlock-inv_rounds s (suc r) h = IsBlock-inv_rounds (back (gather s) (suc r)) r (IsBlock-back (gather s) (suc r) (IsBlock-gather s h))

@@ -1,7 +1,7 @@
 -- The cases of a body by the text that it was made from.
 use Rattle.std.proofs.Common.{◌≡◌, ◌-◌, ℕ, List, length, take, arith, tests, ◌∙◌}
 use Rattle.cbc_mode.specs.Pad.{IsPadded, last_byte}
-use Rattle.cbc_mode.proofs.Bytes.{AreBytes-from_fits, AreBytes-take}
+use Rattle.dp_base.proofs.Parts.{AreBytes-from_fits, AreBytes-take}
 use Rattle.cbc_mode.proofs.Inverse.{AreInverse, AreBytes-plaintext}
 use Rattle.cbc_mode.proofs.Opening.{ciphertext-opened, plaintext-sealed, HasWholeBlocks-sealed}
 use Rattle.cbc_mode.proofs.Padding.{IsPadded-pad, take-pad}

@@ -1,17 +1,10 @@
 -- A body of GCM is its enciphered part and, behind it, the tag.
-use Rattle.std.proofs.Common.{◌≡◌, ◌≢◌, ℕ, ◌+◌, ◌-◌, List, ◌++◌, length, take, drop, Bool, true, false, refl, sym, ap, ◌∙◌, arith, length-append, replicate}
+use Rattle.std.proofs.Common.{◌≡◌, ◌≢◌, ℕ, ◌+◌, ◌-◌, List, ◌++◌, length, take, drop, Bool, true, false, refl, sym, ap, ◌∙◌, arith, length-append}
 use Rattle.std.proofs.lemmas.List.{take-append-drop, take_at, drop_at}
 use Rattle.std.proofs.lemmas.Bool.Decides.{not_from_Decides}
 use Rattle.std.proofs.lemmas.Slice.Eq.{bytes_eq-Decides}
 use Rattle.std.specs.Bool.{Decides}
 use Rattle.std.specs.Str.{bytes_eq}
-use Rattle.dp_base.specs.Blocks.{AreBytes}
-use Rattle.aes_block.specs.Cipher.{aes_cipher}
-use Rattle.aes_block.specs.Laws.{IsBlock-aes_cipher}
-use Rattle.gcm_mode.specs.Ctr.{counter_block}
-use Rattle.gcm_mode.specs.Ghash.{ghash}
-use Rattle.gcm_mode.specs.Product.{block_of}
-use Rattle.gcm_mode.proofs.Counting.{IsBlock-counter_block, length-xor_bytes-le}
 use Rattle.gcm_mode.specs.Ctr.{ctr}
 use Rattle.gcm_mode.specs.Gcm.{gcm_tag, sealed}
 
@@ -22,13 +15,6 @@ settled false told given = absurd (given (not_from_Decides false told refl))
 
 pub no_other : (xs ys : List ℕ) → (¬ (xs ≢ ys)) → xs ≡ ys
 no_other xs ys given = settled (bytes_eq xs ys) (bytes_eq-Decides xs ys) given
-
-pub length-gcm_tag : (key nonce aad c : List ℕ) → length nonce ≡ 12 → AreBytes nonce → length (gcm_tag (aes_cipher key) nonce aad c) ≡ 16
-unfolding gcm_tag ghash block_of
-length-gcm_tag key nonce aad c len are =
-    let keeps = IsBlock-aes_cipher key in
-    let full = (keeps (counter_block nonce 1) (IsBlock-counter_block (aes_cipher key) keeps nonce len are 1)).0 in
-    length-xor_bytes-le (ghash (aes_cipher key (replicate 16 0)) aad c) (aes_cipher key (counter_block nonce 1)) (omega arith)
 
 module _ (f : List ℕ → List ℕ) (nonce aad text body : List ℕ) where
   -- the parts make the body

@@ -5,9 +5,12 @@
 
 mod aes;
 mod answer;
+mod body;
 mod cbc;
 mod derivation;
 mod digest;
 mod gcm;
 mod keyed_hash;
 mod room;
+#[cfg(test)]
+mod tests;

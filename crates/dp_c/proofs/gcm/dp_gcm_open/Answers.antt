@@ -2,7 +2,8 @@ use Rattle.std.proofs.Common.{rules, Err, ◌≡◌, ℕ, ◌-◌, List, length,
 use Rattle.aes_block.specs.Cipher.{aes_cipher}
 use Rattle.gcm_mode.specs.Ctr.{ctr}
 use Rattle.gcm_mode.specs.Gcm.{gcm_tag, sealed}
-use Rattle.dp_c.proofs.Tagged.{front-sealed, length-gcm_tag, no_other, sealed-parts, tag-sealed}
+use Rattle.dp_encryptor.proofs.Undoing.{length-gcm_tag}
+use Rattle.dp_c.proofs.Tagged.{front-sealed, no_other, sealed-parts, tag-sealed}
 use Rattle.dp_c.proofs.gcm.dp_gcm_open.Goals as goal
 
 -- the body is that of the text that was found

@@ -1,0 +1,230 @@
+//! Published values through the exports, and each answer once but those that need 4 GiB or want of
+//! memory. `dp_c.h` and the scripts of tests/vectors try the same calls from C and from Python.
+
+use crate::aes::{dp_aes_decrypt, dp_aes_encrypt};
+use crate::answer::{
+    BAD_CODE, BAD_KEY_LENGTH, BAD_LENGTH, BAD_PADDING, BAD_TAG, BAD_VECTOR, DONE, NO_ROOM,
+    TAMPERED, TOO_LONG,
+};
+use crate::body::{dp_body_open, dp_body_seal};
+use crate::cbc::{dp_cbc_open, dp_cbc_seal};
+use crate::derivation::{dp_context_header, dp_derive};
+use crate::digest::{dp_sha256, dp_sha512};
+use crate::gcm::{dp_gcm_open, dp_gcm_seal};
+use crate::keyed_hash::{dp_hmac_sha256, dp_hmac_sha512};
+use std::test::Fail;
+
+// SP 800-38A, F.2.1: the key, the vector, the first block of the text, and what CBC makes of it.
+const KEY: [u8; 16] = *b"\x2b\x7e\x15\x16\x28\xae\xd2\xa6\xab\xf7\x15\x88\x09\xcf\x4f\x3c";
+
+const VECTOR: [u8; 16] = *b"\x00\x01\x02\x03\x04\x05\x06\x07\x08\x09\x0a\x0b\x0c\x0d\x0e\x0f";
+
+const BLOCK: [u8; 16] = *b"\x6b\xc1\xbe\xe2\x2e\x40\x9f\x96\xe9\x3d\x7e\x11\x73\x93\x17\x2a";
+
+const CHAINED: [u8; 16] = *b"\x76\x49\xab\xac\x81\x19\xb2\x46\xce\xe9\x8e\x9b\x12\xe9\x19\x7d";
+
+// FIPS 197, C.1.
+#[test]
+fn aes(rt: HostRuntime) {
+    let text = b"\x00\x11\x22\x33\x44\x55\x66\x77\x88\x99\xaa\xbb\xcc\xdd\xee\xff";
+    let enciphered = b"\x69\xc4\xe0\xd8\x6a\x7b\x04\x30\xd8\xcd\xb7\x80\x70\xb4\xc5\x5a";
+    let mut block = *text;
+    assert_eq!(rt; dp_aes_encrypt(&VECTOR, &mut block), DONE);
+    assert_eq!(rt; &block, enciphered);
+    assert_eq!(rt; dp_aes_encrypt(&VECTOR[..15], &mut block), BAD_KEY_LENGTH);
+    assert_eq!(rt; dp_aes_decrypt(b"", &mut block), BAD_KEY_LENGTH);
+    assert_eq!(rt; &block, enciphered);
+    assert_eq!(rt; dp_aes_decrypt(&VECTOR, &mut block), DONE);
+    assert_eq!(rt; &block, text);
+}
+
+#[test]
+fn cbc(rt: HostRuntime) {
+    let mut body = [0x55; 34];
+    let mut written = 7;
+    let told = dp_cbc_seal(
+        rt.alloc(),
+        &KEY,
+        &VECTOR,
+        &BLOCK,
+        &mut body[..31],
+        &mut written,
+    );
+    assert_eq!(rt; (told, written), (NO_ROOM, 7));
+    assert_eq!(rt; body, [0x55; 34]);
+    let told = dp_cbc_seal(
+        rt.alloc(),
+        b"15 bytes of key",
+        &VECTOR,
+        &BLOCK,
+        &mut body,
+        &mut written,
+    );
+    assert_eq!(rt; (told, written), (BAD_KEY_LENGTH, 7));
+    let told = dp_cbc_seal(rt.alloc(), &KEY, &VECTOR, &BLOCK, &mut body, &mut written);
+    assert_eq!(rt; (told, written), (DONE, 32));
+    assert_eq!(rt; &body[..16], CHAINED.as_slice());
+    assert_eq!(rt; &body[32..], [0x55; 2].as_slice());
+    let mut text = [0x55; 17];
+    let mut open = |key: &[u8], body: &[u8], room: usize| {
+        let told = dp_cbc_open(
+            rt.alloc(),
+            key,
+            &VECTOR,
+            body,
+            &mut text[..room],
+            &mut written,
+        );
+        (told, written)
+    };
+    assert_eq!(rt; open(b"", &body[..32], 17), (BAD_KEY_LENGTH, 32));
+    assert_eq!(rt; open(&KEY, &body[..31], 17), (BAD_LENGTH, 32));
+    assert_eq!(rt; open(&KEY, b"", 17), (BAD_LENGTH, 32));
+    assert_eq!(rt; open(&KEY, &CHAINED, 17), (BAD_PADDING, 32));
+    assert_eq!(rt; open(&KEY, &body[..32], 15), (NO_ROOM, 32));
+    assert_eq!(rt; open(&KEY, &body[..32], 17), (DONE, 16));
+    assert_eq!(rt; &text[..16], BLOCK.as_slice());
+    assert_eq!(rt; text[16], 0x55);
+}
+
+// "The Galois/Counter Mode of Operation (GCM)" by McGrew and Viega, test case 2.
+#[test]
+fn gcm(rt: HostRuntime) {
+    let sealed = b"\x03\x88\xda\xce\x60\xb6\xa3\x92\xf3\x28\xc2\xb9\x71\xb2\xfe\x78\
+        \xab\x6e\x47\xd4\x2c\xec\x13\xbd\xf5\x3a\x67\xb2\x12\x57\xbd\xdf";
+    let mut body = [0x55; 33];
+    let mut written = 7;
+    let mut seal = |key: &[u8], room: usize| {
+        let told = dp_gcm_seal(
+            rt.alloc(),
+            key,
+            &[0; 12],
+            b"",
+            &[0; 16],
+            &mut body[..room],
+            &mut written,
+        );
+        (told, written)
+    };
+    assert_eq!(rt; seal(&[0; 17], 33), (BAD_KEY_LENGTH, 7));
+    assert_eq!(rt; seal(&[0; 16], 31), (NO_ROOM, 7));
+    assert_eq!(rt; seal(&[0; 16], 33), (DONE, 32));
+    assert_eq!(rt; &body[..32], sealed.as_slice());
+    assert_eq!(rt; body[32], 0x55);
+    let mut text = [0x55; 17];
+    let mut open = |key: &[u8], aad: &[u8], body: &[u8], room: usize| {
+        let told = dp_gcm_open(
+            rt.alloc(),
+            key,
+            &[0; 12],
+            aad,
+            body,
+            &mut text[..room],
+            &mut written,
+        );
+        (told, written)
+    };
+    assert_eq!(rt; open(b"", b"", sealed, 17), (BAD_KEY_LENGTH, 32));
+    assert_eq!(rt; open(&[0; 16], b"", &sealed[..15], 17), (BAD_LENGTH, 32));
+    assert_eq!(rt; open(&[0; 16], b"", &sealed[..31], 17), (BAD_TAG, 32));
+    assert_eq!(rt; open(&[0; 16], b"more", sealed, 17), (BAD_TAG, 32));
+    assert_eq!(rt; open(&[0; 16], b"", sealed, 15), (NO_ROOM, 32));
+    assert_eq!(rt; open(&[0; 16], b"", sealed, 17), (DONE, 16));
+    assert_eq!(rt; &text[..16], [0; 16].as_slice());
+    assert_eq!(rt; text[16], 0x55);
+}
+
+// FIPS 180-4's example "abc", and RFC 4231, test case 2.
+#[test]
+fn hashes(rt: HostRuntime) {
+    let mut short = [0; 32];
+    dp_sha256(b"abc", &mut short);
+    assert_eq!(rt; &short[..4], b"\xba\x78\x16\xbf".as_slice());
+    let mut long = [0; 64];
+    dp_sha512(b"abc", &mut long);
+    assert_eq!(rt; &long[..4], b"\xdd\xaf\x35\xa1".as_slice());
+    dp_hmac_sha256(b"Jefe", b"what do ya want ", b"for nothing?", &mut short);
+    assert_eq!(rt; &short[..4], b"\x5b\xdc\xc1\x46".as_slice());
+    dp_hmac_sha512(b"Jefe", b"what do ya want ", b"for nothing?", &mut long);
+    assert_eq!(rt; &long[..4], b"\x16\x4b\x7a\x7b".as_slice());
+}
+
+// The bytes were worked out by Python's `hmac`, apart from this repository.
+#[test]
+fn derivation(rt: HostRuntime) -> Result<(), Fail> {
+    let mut out = [0x55; 20];
+    assert_eq!(rt; dp_derive(b"key", b"label", b"context", &mut out), DONE);
+    assert_eq!(rt; &out, DERIVED);
+    let mut long = Vec::from_elem(rt.alloc(), 0x55, 1025)?;
+    assert_eq!(rt;
+        dp_derive(b"key", b"label", b"context", &mut long),
+        TOO_LONG
+    );
+    assert!(rt; long.iter().all(|byte| *byte == 0x55));
+    Ok(())
+}
+
+const DERIVED: &[u8; 20] =
+    b"\xcd\xae\x65\x0f\xea\xa1\xe2\xfd\x14\x27\xfa\x7f\x54\x60\x58\x7f\x88\x52\xab\xc5";
+
+#[test]
+fn headers(rt: HostRuntime) {
+    let mut room = [0x55; 99];
+    let mut written = 7;
+    assert_eq!(rt; dp_context_header(0, &mut room, &mut written), BAD_CODE);
+    assert_eq!(rt; dp_context_header(10, &mut room, &mut written), BAD_CODE);
+    assert_eq!(rt;
+        dp_context_header(6, &mut room[..97], &mut written),
+        NO_ROOM
+    );
+    assert_eq!(rt; (written, room[0]), (7, 0x55));
+    assert_eq!(rt; dp_context_header(6, &mut room, &mut written), DONE);
+    assert_eq!(rt; (written, room[98]), (98, 0x55));
+    assert_eq!(rt; &room[..6], b"\x00\x00\x00\x00\x00\x20".as_slice());
+}
+
+#[test]
+fn bodies(rt: HostRuntime) {
+    let material = [0x11; 64];
+    let mut body = [0x55; 61];
+    let mut written = 7;
+    let mut seal = |code: u8, iv: &[u8], room: usize| {
+        let told = dp_body_seal(
+            rt.alloc(),
+            code,
+            &material,
+            b"aad",
+            &[0x22; 16],
+            iv,
+            b"sixteen bytes..",
+            &mut body[..room],
+            &mut written,
+        );
+        (told, written)
+    };
+    assert_eq!(rt; seal(10, &[0; 12], 61), (BAD_CODE, 7));
+    assert_eq!(rt; seal(9, &[0; 16], 61), (BAD_VECTOR, 7));
+    assert_eq!(rt; seal(9, &[0; 12], 58), (NO_ROOM, 7));
+    assert_eq!(rt; seal(9, &[0; 12], 61), (DONE, 59));
+    assert_eq!(rt; &body[59..], [0x55; 2].as_slice());
+    let mut text = [0x55; 16];
+    let mut open = |code: u8, body: &[u8], room: usize| {
+        let told = dp_body_open(
+            rt.alloc(),
+            code,
+            &material,
+            b"aad",
+            body,
+            &mut text[..room],
+            &mut written,
+        );
+        (told, written)
+    };
+    assert_eq!(rt; open(0, &body[..59], 16), (BAD_CODE, 59));
+    assert_eq!(rt; open(9, &body[..43], 16), (BAD_LENGTH, 59));
+    assert_eq!(rt; open(8, &body[..59], 16), (TAMPERED, 59));
+    assert_eq!(rt; open(9, &body[..58], 16), (TAMPERED, 59));
+    assert_eq!(rt; open(9, &body[..59], 14), (NO_ROOM, 59));
+    assert_eq!(rt; open(9, &body[..59], 16), (DONE, 15));
+    assert_eq!(rt; &text, b"sixteen bytes..\x55");
+}

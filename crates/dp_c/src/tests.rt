@@ -12,6 +12,7 @@ use crate::derivation::{dp_context_header, dp_derive};
 use crate::digest::{dp_sha256, dp_sha512};
 use crate::gcm::{dp_gcm_open, dp_gcm_seal};
 use crate::keyed_hash::{dp_hmac_sha256, dp_hmac_sha512};
+use std::alloc::Global;
 use std::test::Fail;
 
 // SP 800-38A, F.2.1: the key, the vector, the first block of the text, and what CBC makes of it.
@@ -38,98 +39,106 @@ fn aes(rt: HostRuntime) {
     assert_eq!(rt; &block, text);
 }
 
+// What a call answers, and the number that it leaves where 7 stood.
+fn sealed_cbc(alloc: Global, key: &[u8], out: &mut [u8]) -> (u32, usize) {
+    let mut written = 7;
+    let told = dp_cbc_seal(alloc, key, &VECTOR, &BLOCK, out, &mut written);
+    (told, written)
+}
+
+fn opened_cbc(alloc: Global, key: &[u8], body: &[u8], out: &mut [u8]) -> (u32, usize) {
+    let mut written = 7;
+    let told = dp_cbc_open(alloc, key, &VECTOR, body, out, &mut written);
+    (told, written)
+}
+
 #[test]
 fn cbc(rt: HostRuntime) {
+    let alloc = rt.alloc();
     let mut body = [0x55; 34];
-    let mut written = 7;
-    let told = dp_cbc_seal(
-        rt.alloc(),
-        &KEY,
-        &VECTOR,
-        &BLOCK,
-        &mut body[..31],
-        &mut written,
+    assert_eq!(rt;
+        sealed_cbc(alloc, b"15 bytes of key", &mut body),
+        (BAD_KEY_LENGTH, 7)
     );
-    assert_eq!(rt; (told, written), (NO_ROOM, 7));
+    assert_eq!(rt; sealed_cbc(alloc, &KEY, &mut body[..31]), (NO_ROOM, 7));
     assert_eq!(rt; body, [0x55; 34]);
-    let told = dp_cbc_seal(
-        rt.alloc(),
-        b"15 bytes of key",
-        &VECTOR,
-        &BLOCK,
-        &mut body,
-        &mut written,
-    );
-    assert_eq!(rt; (told, written), (BAD_KEY_LENGTH, 7));
-    let told = dp_cbc_seal(rt.alloc(), &KEY, &VECTOR, &BLOCK, &mut body, &mut written);
-    assert_eq!(rt; (told, written), (DONE, 32));
+    assert_eq!(rt; sealed_cbc(alloc, &KEY, &mut body), (DONE, 32));
     assert_eq!(rt; &body[..16], CHAINED.as_slice());
     assert_eq!(rt; &body[32..], [0x55; 2].as_slice());
     let mut text = [0x55; 17];
-    let mut open = |key: &[u8], body: &[u8], room: usize| {
-        let told = dp_cbc_open(
-            rt.alloc(),
-            key,
-            &VECTOR,
-            body,
-            &mut text[..room],
-            &mut written,
-        );
-        (told, written)
-    };
-    assert_eq!(rt; open(b"", &body[..32], 17), (BAD_KEY_LENGTH, 32));
-    assert_eq!(rt; open(&KEY, &body[..31], 17), (BAD_LENGTH, 32));
-    assert_eq!(rt; open(&KEY, b"", 17), (BAD_LENGTH, 32));
-    assert_eq!(rt; open(&KEY, &CHAINED, 17), (BAD_PADDING, 32));
-    assert_eq!(rt; open(&KEY, &body[..32], 15), (NO_ROOM, 32));
-    assert_eq!(rt; open(&KEY, &body[..32], 17), (DONE, 16));
+    assert_eq!(rt;
+        opened_cbc(alloc, b"", &body[..32], &mut text),
+        (BAD_KEY_LENGTH, 7)
+    );
+    assert_eq!(rt;
+        opened_cbc(alloc, &KEY, &body[..31], &mut text),
+        (BAD_LENGTH, 7)
+    );
+    assert_eq!(rt; opened_cbc(alloc, &KEY, b"", &mut text), (BAD_LENGTH, 7));
+    assert_eq!(rt;
+        opened_cbc(alloc, &KEY, &CHAINED, &mut text),
+        (BAD_PADDING, 7)
+    );
+    assert_eq!(rt;
+        opened_cbc(alloc, &KEY, &body[..32], &mut text[..15]),
+        (NO_ROOM, 7)
+    );
+    assert_eq!(rt; text, [0x55; 17]);
+    assert_eq!(rt; opened_cbc(alloc, &KEY, &body[..32], &mut text), (DONE, 16));
     assert_eq!(rt; &text[..16], BLOCK.as_slice());
     assert_eq!(rt; text[16], 0x55);
+}
+
+fn sealed_gcm(alloc: Global, key: &[u8], out: &mut [u8]) -> (u32, usize) {
+    let mut written = 7;
+    let told = dp_gcm_seal(alloc, key, &[0; 12], b"", &[0; 16], out, &mut written);
+    (told, written)
+}
+
+fn opened_gcm(alloc: Global, key: &[u8], aad: &[u8], body: &[u8], out: &mut [u8]) -> (u32, usize) {
+    let mut written = 7;
+    let told = dp_gcm_open(alloc, key, &[0; 12], aad, body, out, &mut written);
+    (told, written)
 }
 
 // "The Galois/Counter Mode of Operation (GCM)" by McGrew and Viega, test case 2.
 #[test]
 fn gcm(rt: HostRuntime) {
+    let alloc = rt.alloc();
     let sealed = b"\x03\x88\xda\xce\x60\xb6\xa3\x92\xf3\x28\xc2\xb9\x71\xb2\xfe\x78\
         \xab\x6e\x47\xd4\x2c\xec\x13\xbd\xf5\x3a\x67\xb2\x12\x57\xbd\xdf";
     let mut body = [0x55; 33];
-    let mut written = 7;
-    let mut seal = |key: &[u8], room: usize| {
-        let told = dp_gcm_seal(
-            rt.alloc(),
-            key,
-            &[0; 12],
-            b"",
-            &[0; 16],
-            &mut body[..room],
-            &mut written,
-        );
-        (told, written)
-    };
-    assert_eq!(rt; seal(&[0; 17], 33), (BAD_KEY_LENGTH, 7));
-    assert_eq!(rt; seal(&[0; 16], 31), (NO_ROOM, 7));
-    assert_eq!(rt; seal(&[0; 16], 33), (DONE, 32));
+    assert_eq!(rt; sealed_gcm(alloc, &[0; 17], &mut body), (BAD_KEY_LENGTH, 7));
+    assert_eq!(rt; sealed_gcm(alloc, &[0; 16], &mut body[..31]), (NO_ROOM, 7));
+    assert_eq!(rt; sealed_gcm(alloc, &[0; 16], &mut body), (DONE, 32));
     assert_eq!(rt; &body[..32], sealed.as_slice());
     assert_eq!(rt; body[32], 0x55);
     let mut text = [0x55; 17];
-    let mut open = |key: &[u8], aad: &[u8], body: &[u8], room: usize| {
-        let told = dp_gcm_open(
-            rt.alloc(),
-            key,
-            &[0; 12],
-            aad,
-            body,
-            &mut text[..room],
-            &mut written,
-        );
-        (told, written)
-    };
-    assert_eq!(rt; open(b"", b"", sealed, 17), (BAD_KEY_LENGTH, 32));
-    assert_eq!(rt; open(&[0; 16], b"", &sealed[..15], 17), (BAD_LENGTH, 32));
-    assert_eq!(rt; open(&[0; 16], b"", &sealed[..31], 17), (BAD_TAG, 32));
-    assert_eq!(rt; open(&[0; 16], b"more", sealed, 17), (BAD_TAG, 32));
-    assert_eq!(rt; open(&[0; 16], b"", sealed, 15), (NO_ROOM, 32));
-    assert_eq!(rt; open(&[0; 16], b"", sealed, 17), (DONE, 16));
+    assert_eq!(rt;
+        opened_gcm(alloc, b"", b"", sealed, &mut text),
+        (BAD_KEY_LENGTH, 7)
+    );
+    assert_eq!(rt;
+        opened_gcm(alloc, &[0; 16], b"", &sealed[..15], &mut text),
+        (BAD_LENGTH, 7)
+    );
+    assert_eq!(rt;
+        opened_gcm(alloc, &[0; 16], b"", &sealed[..31], &mut text),
+        (BAD_TAG, 7)
+    );
+    assert_eq!(rt;
+        opened_gcm(alloc, &[0; 16], b"more", sealed, &mut text),
+        (BAD_TAG, 7)
+    );
+    assert_eq!(rt;
+        opened_gcm(alloc, &[0; 16], b"", sealed, &mut text[..15]),
+        (NO_ROOM, 7)
+    );
+    assert_eq!(rt; text, [0x55; 17]);
+    assert_eq!(rt;
+        opened_gcm(alloc, &[0; 16], b"", sealed, &mut text),
+        (DONE, 16)
+    );
     assert_eq!(rt; &text[..16], [0; 16].as_slice());
     assert_eq!(rt; text[16], 0x55);
 }
@@ -183,48 +192,63 @@ fn headers(rt: HostRuntime) {
     assert_eq!(rt; &room[..6], b"\x00\x00\x00\x00\x00\x20".as_slice());
 }
 
+fn sealed_body(alloc: Global, code: u8, iv: &[u8], out: &mut [u8]) -> (u32, usize) {
+    let mut written = 7;
+    let told = dp_body_seal(
+        alloc,
+        code,
+        &[0x11; 64],
+        b"aad",
+        &[0x22; 16],
+        iv,
+        b"sixteen bytes..",
+        out,
+        &mut written,
+    );
+    (told, written)
+}
+
+fn opened_body(alloc: Global, code: u8, body: &[u8], out: &mut [u8]) -> (u32, usize) {
+    let mut written = 7;
+    let told = dp_body_open(alloc, code, &[0x11; 64], b"aad", body, out, &mut written);
+    (told, written)
+}
+
 #[test]
 fn bodies(rt: HostRuntime) {
-    let material = [0x11; 64];
+    let alloc = rt.alloc();
     let mut body = [0x55; 61];
-    let mut written = 7;
-    let mut seal = |code: u8, iv: &[u8], room: usize| {
-        let told = dp_body_seal(
-            rt.alloc(),
-            code,
-            &material,
-            b"aad",
-            &[0x22; 16],
-            iv,
-            b"sixteen bytes..",
-            &mut body[..room],
-            &mut written,
-        );
-        (told, written)
-    };
-    assert_eq!(rt; seal(10, &[0; 12], 61), (BAD_CODE, 7));
-    assert_eq!(rt; seal(9, &[0; 16], 61), (BAD_VECTOR, 7));
-    assert_eq!(rt; seal(9, &[0; 12], 58), (NO_ROOM, 7));
-    assert_eq!(rt; seal(9, &[0; 12], 61), (DONE, 59));
+    assert_eq!(rt; sealed_body(alloc, 10, &[0; 12], &mut body), (BAD_CODE, 7));
+    assert_eq!(rt; sealed_body(alloc, 9, &[0; 16], &mut body), (BAD_VECTOR, 7));
+    assert_eq!(rt;
+        sealed_body(alloc, 9, &[0; 12], &mut body[..58]),
+        (NO_ROOM, 7)
+    );
+    assert_eq!(rt; body, [0x55; 61]);
+    assert_eq!(rt; sealed_body(alloc, 9, &[0; 12], &mut body), (DONE, 59));
     assert_eq!(rt; &body[59..], [0x55; 2].as_slice());
     let mut text = [0x55; 16];
-    let mut open = |code: u8, body: &[u8], room: usize| {
-        let told = dp_body_open(
-            rt.alloc(),
-            code,
-            &material,
-            b"aad",
-            body,
-            &mut text[..room],
-            &mut written,
-        );
-        (told, written)
-    };
-    assert_eq!(rt; open(0, &body[..59], 16), (BAD_CODE, 59));
-    assert_eq!(rt; open(9, &body[..43], 16), (BAD_LENGTH, 59));
-    assert_eq!(rt; open(8, &body[..59], 16), (TAMPERED, 59));
-    assert_eq!(rt; open(9, &body[..58], 16), (TAMPERED, 59));
-    assert_eq!(rt; open(9, &body[..59], 14), (NO_ROOM, 59));
-    assert_eq!(rt; open(9, &body[..59], 16), (DONE, 15));
+    assert_eq!(rt;
+        opened_body(alloc, 0, &body[..59], &mut text),
+        (BAD_CODE, 7)
+    );
+    assert_eq!(rt;
+        opened_body(alloc, 9, &body[..43], &mut text),
+        (BAD_LENGTH, 7)
+    );
+    assert_eq!(rt;
+        opened_body(alloc, 8, &body[..59], &mut text),
+        (TAMPERED, 7)
+    );
+    assert_eq!(rt;
+        opened_body(alloc, 9, &body[..58], &mut text),
+        (TAMPERED, 7)
+    );
+    assert_eq!(rt;
+        opened_body(alloc, 9, &body[..59], &mut text[..14]),
+        (NO_ROOM, 7)
+    );
+    assert_eq!(rt; text, [0x55; 16]);
+    assert_eq!(rt; opened_body(alloc, 9, &body[..59], &mut text), (DONE, 15));
     assert_eq!(rt; &text, b"sixteen bytes..\x55");
 }

@@ -10,10 +10,12 @@ pub returns-in-Ok-open_body-clause-done : goal.returns-in-Ok-open_body-clause-do
 returns-in-Ok-open_body-clause-done c alg code done =
     let told : c.deref.result.now ≡ c.in-Ok-open_body.text.items = search rules in
     let bytes = c.hand_out.ensures.bytes done in
-    let all : c.in-Ok-open_body.text.items ≡ take c.hand_out.new.written c.hand_out.new.out = sym told ∙ sym bytes.1 in
-    (bytes.0, at_code (λ (a : Alg) (k : KeyPair) (p : Parts). Opens a k p (take c.hand_out.new.written c.hand_out.new.out))
-    c.in-Ok.encryptor c.in-Some-split.view c.in-Some.alg alg c.args.material.now c.args.aad.now c.args.body.now c.args.code
-    c.in-Ok.ensures c.in-Some-split.ensures.parts c.in-Some.ensures.value code (rw (← all) c.in-Ok-open_body.ensures.found))
+    let all : c.in-Ok-open_body.text.items ≡ take c.hand_out.new.written c.hand_out.new.out = sym told ∙ sym bytes.1 in (
+      bytes.0,
+      at_code (λ (a : Alg) (k : KeyPair) (p : Parts). Opens a k p (take c.hand_out.new.written c.hand_out.new.out))
+          c.in-Ok.encryptor c.in-Some-split.view c.in-Some.alg alg c.args.material.now c.args.aad.now c.args.body.now c.args.code
+          c.in-Ok.ensures c.in-Some-split.ensures.parts c.in-Some.ensures.value code (rw (← all) c.in-Ok-open_body.ensures.found),
+    )
 
 pub returns-in-Ok-open_body-clause-not_padded : goal.returns-in-Ok-open_body-clause-not_padded
 returns-in-Ok-open_body-clause-not_padded c alg fits wrong =
@@ -34,10 +36,14 @@ returns-in-Ok-open_body-clause-only c alg text are fits opens =
 
 pub returns-in-Ok-open_body-clause-no_room : goal.returns-in-Ok-open_body-clause-no_room
 returns-in-Ok-open_body-clause-no_room c alg code full =
-    let told : c.deref.result.now ≡ c.in-Ok-open_body.text.items = search rules in
-    (c.in-Ok-open_body.text.items, c.in-Ok-open_body.ensures.bytes, search rules, at_code (λ (a : Alg) (k : KeyPair) (p : Parts). Opens a k p c.in-Ok-open_body.text.items)
-    c.in-Ok.encryptor c.in-Some-split.view c.in-Some.alg alg c.args.material.now c.args.aad.now c.args.body.now c.args.code
-    c.in-Ok.ensures c.in-Some-split.ensures.parts c.in-Some.ensures.value code c.in-Ok-open_body.ensures.found)
+    let told : c.deref.result.now ≡ c.in-Ok-open_body.text.items = search rules in (
+      c.in-Ok-open_body.text.items,
+      c.in-Ok-open_body.ensures.bytes,
+      search rules,
+      at_code (λ (a : Alg) (k : KeyPair) (p : Parts). Opens a k p c.in-Ok-open_body.text.items)
+          c.in-Ok.encryptor c.in-Some-split.view c.in-Some.alg alg c.args.material.now c.args.aad.now c.args.body.now c.args.code
+          c.in-Ok.ensures c.in-Some-split.ensures.parts c.in-Some.ensures.value code c.in-Ok-open_body.ensures.found,
+    )
 
 pub returns-in-Err-Tampered-clause-tampered : goal.returns-in-Err-Tampered-clause-tampered
 returns-in-Err-Tampered-clause-tampered c alg code is =

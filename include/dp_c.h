@@ -22,8 +22,8 @@
  * - Keys. What is made of a key is private to the library, so no context crosses to C: each call expands
  *   its key anew, and a call on a body derives its keys and works out the context header anew.
  * - Time. None of this runs in constant time, and no key is wiped from memory.
- * - Machine. x86-64 with the instructions of level 2 (x86-64-v2), as every such processor since about
- *   2009 has, under Linux. No function asks for more.
+ * - Machine. x86-64 with the instructions of level 2 (x86-64-v2: up to SSE4.2 and POPCNT), under Linux. No
+ *   function asks for more, and none uses AES or SHA instructions.
  */
 #ifndef DP_C_H
 #define DP_C_H
@@ -77,8 +77,9 @@ uint32_t dp_cbc_seal(const uint8_t *key, size_t key_len, const uint8_t iv[16],
 
 /*
  * The way back. Room: the text's length, which is below body_len; body_len bytes always do.
- * Answers DP_DONE; DP_BAD_KEY_LENGTH; DP_BAD_LENGTH exactly where the body (and the key is none of these)
- * is empty or no multiple of 16 bytes; DP_BAD_PADDING; DP_NO_MEMORY; DP_NO_ROOM. Takes memory.
+ * Answers DP_DONE; DP_BAD_KEY_LENGTH; DP_BAD_LENGTH exactly where the key is right and the body is empty or
+ * no multiple of 16 bytes; DP_BAD_PADDING; DP_NO_MEMORY; DP_NO_ROOM. Takes memory. Who tells a peer that
+ * padding was wrong gives texts away.
  */
 uint32_t dp_cbc_open(const uint8_t *key, size_t key_len, const uint8_t iv[16],
                      const uint8_t *body, size_t body_len,

@@ -1,7 +1,6 @@
 -- What holds of the algorithm that a call found holds of every algorithm of its code, and the other way.
 use Rattle.std.proofs.Common.{◌≡◌, ℕ, List, cond, nat_eq, refl, sym, ap, subst, ◌∙◌}
 use Rattle.dp_base.specs.Codes.{code_of}
-use Rattle.dp_base.specs.declared.alg.AesSize.{AesSize}
 use Rattle.dp_base.specs.declared.alg.AesSize.TheVariants.{A128, A192, A256}
 use Rattle.dp_base.specs.declared.alg.Alg.{Alg}
 use Rattle.dp_base.specs.declared.alg.Alg.TheVariants.{Cbc256, Cbc512, Gcm}

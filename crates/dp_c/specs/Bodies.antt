@@ -1,5 +1,5 @@
 -- Bodies under an algorithm that is told by its code.
-use Rattle.std.specs.Prelude.{◌≡◌, ℕ, ◌≤◌, ◌<◌, ◌^◌, List, length, take}
+use Rattle.std.specs.Prelude.{◌≡◌, ℕ, ◌≤◌, ◌<◌, ◌^◌, List, length}
 use Rattle.dp_base.specs.Codes.{code_of}
 use Rattle.dp_base.specs.declared.alg.Alg.{Alg}
 use Rattle.context_header.specs.Keys.{KeyPair}

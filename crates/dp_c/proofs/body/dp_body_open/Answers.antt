@@ -1,4 +1,4 @@
-use Rattle.std.proofs.Common.{rules, Err, ◌≡◌, ◌⊎◌, inl, inr, ℕ, ◌<◌, List, length, take, refl, sym, ap, ◌∙◌}
+use Rattle.std.proofs.Common.{rules, Err, ◌≡◌, ◌⊎◌, take, sym, ap, ◌∙◌}
 use Rattle.dp_base.specs.declared.alg.Alg.{Alg}
 use Rattle.context_header.specs.Keys.{KeyPair}
 use Rattle.payload_view.specs.Payload.{Parts}

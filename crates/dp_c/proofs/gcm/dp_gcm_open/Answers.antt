@@ -1,4 +1,4 @@
-use Rattle.std.proofs.Common.{rules, Err, ◌≡◌, ℕ, ◌-◌, List, length, take, drop, refl, sym, ap, ◌∙◌}
+use Rattle.std.proofs.Common.{rules, Err, ◌≡◌, ◌-◌, length, take, drop, refl, sym, ap, ◌∙◌}
 use Rattle.aes_block.specs.Cipher.{aes_cipher}
 use Rattle.gcm_mode.specs.Ctr.{ctr}
 use Rattle.gcm_mode.specs.Gcm.{gcm_tag, sealed}

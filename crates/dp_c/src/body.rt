@@ -18,8 +18,8 @@ use payload_view::BodyView;
 use std::alloc::Global;
 
 /// Seals the text under the algorithm of the code into the front of `out`: modifier, vector, enciphered
-/// text and tag; and tells how many bytes it wrote. It writes only where it is done. No two bodies of one
-/// material and one `aad` may have the same modifier and vector.
+/// text and tag; and tells how many bytes it wrote. It writes only where it is done. No two bodies of
+/// one material and one `aad` may have the same modifier and vector.
 #[unsafe(no_mangle)]
 pub extern "C" fn dp_body_seal(
     alloc: Global,

@@ -1,66 +1,90 @@
-"""The library against OpenSSL's command and Python's hmac, on random inputs of a fixed seed."""
+"""The library against OpenSSL's command, Python's hmac and Python's `cryptography`, on random inputs of a
+fixed seed."""
 
 import hashlib
 import hmac
-import random
+import shutil
 import subprocess
-import sys
 
 import library
+from draws import Draws
+from tally import Missing, same
 
 BLOCKS = 10_000
 LONGEST = 300
+DERIVATIONS = 2_000
+CUT = LONGEST + 1
 
 
 def openssl(cipher, key, data, *more):
+    if shutil.which("openssl") is None:
+        raise Missing("openssl")
     command = ["openssl", "enc", f"-aes-{8 * len(key)}-{cipher}", "-K", key.hex(), *more]
-    return subprocess.run(command, input=data, capture_output=True, check=True).stdout
+    return subprocess.run(command, input=data, stdout=subprocess.PIPE, check=True).stdout
 
 
-def blocks(draw, size):
-    key = draw.randbytes(size)
-    data = draw.randbytes(16 * BLOCKS)
-    parts = [data[at : at + 16] for at in range(0, len(data), 16)]
-    enciphered = b"".join(library.aes_encrypt(key, part) for part in parts)
-    assert enciphered == openssl("ecb", key, data, "-nopad"), size
-    deciphered = b"".join(library.aes_decrypt(key, part) for part in parts)
-    assert deciphered == openssl("ecb", key, data, "-nopad", "-d"), size
-    return 2 * BLOCKS
+def blocks(way, size):
+    draw = Draws(20 + size)
+    key, data = draw.bytes(size), draw.bytes(16 * BLOCKS)
+    wanted = openssl("ecb", key, data, "-nopad", *(["-d"] if way is library.aes_decrypt else []))
+    for at in range(0, len(data), 16):
+        same(way(key, data[at : at + 16]), ("done", wanted[at : at + 16]), size, at)
+        yield
 
 
-def chained(draw, size):
+def chained(size):
+    draw = Draws(30 + size)
     for length in range(LONGEST + 1):
-        key, iv, text = draw.randbytes(size), draw.randbytes(16), draw.randbytes(length)
+        key, iv, text = draw.bytes(size), draw.bytes(16), draw.bytes(length)
         answer, body = library.cbc_seal(key, iv, text)
-        assert answer == "done", (size, length)
-        assert body == openssl("cbc", key, text, "-iv", iv.hex()), (size, length)
-        assert library.cbc_open(key, iv, body) == ("done", text), (size, length)
+        wanted = openssl("cbc", key, text, "-iv", iv.hex())
+        same((answer, body), ("done", wanted), size, length)
+        same(library.cbc_open(key, iv, body), ("done", text), size, length)
         # A cut body has no whole blocks.
-        cut = library.cbc_open(key, iv, body[:-1])[0]
-        assert cut == "bad length", (size, length)
-    return LONGEST + 1
+        same(library.cbc_open(key, iv, body[:-1]), ("bad length", b""), size, length)
+        yield
 
 
-def keyed(draw, size):
+def keyed(size):
+    draw = Draws(40 + size)
     for length in range(LONGEST + 1):
-        key, text = draw.randbytes(draw.randrange(300)), draw.randbytes(length)
+        key, text = draw.up_to(299), draw.bytes(length)
         value = library.hmac(size, key, text, draw.randrange(length + 1))
-        wanted = hmac.new(key, text, getattr(hashlib, f"sha{size}")).digest()
-        assert value == wanted, (size, length)
+        same(value, hmac.new(key, text, f"sha{size}").digest(), size, length)
         digest = library.digest(size, text)
-        assert digest == getattr(hashlib, f"sha{size}")(text).digest(), (size, length)
-    return LONGEST + 1
+        same(digest, hashlib.new(f"sha{size}", text).digest(), size, length)
+        yield
 
 
-def main():
-    draw = random.Random(20)
-    counts = [sum(each(draw, size) for size in sizes) for each, sizes in (
-        (blocks, (16, 24, 32)),
-        (chained, (16, 24, 32)),
-        (keyed, (256, 512)),
-    )]
-    print(f"cross-checks: {counts[0]} blocks, {counts[1]} bodies and {counts[2]} keyed hashes agree")
+def derived():
+    try:
+        from cryptography.hazmat.primitives.hashes import SHA512
+        from cryptography.hazmat.primitives.kdf import kbkdf
+    except ImportError:
+        raise Missing("cryptography of Python") from None
+    draw = Draws(50)
+    for number in range(DERIVATIONS):
+        key, label, context = draw.up_to(200), draw.up_to(80), draw.up_to(200)
+        # The lengths around whole values come first.
+        size = number + 1 if number < 200 else draw.randrange(1, 1025)
+        wanted = kbkdf.KBKDFHMAC(
+            algorithm=SHA512(), mode=kbkdf.Mode.CounterMode, length=size, rlen=4, llen=4,
+            location=kbkdf.CounterLocation.BeforeFixed, label=label, context=context, fixed=None,
+        ).derive(key)
+        same(library.derive(key, label, context, size), ("done", wanted), number)
+        yield
 
 
-if __name__ == "__main__":
-    sys.exit(main())
+PARTS = [
+    *(
+        (f"OpenSSL, AES-{8 * size}, {name}", BLOCKS, lambda way=way, size=size: blocks(way, size))
+        for size in (16, 24, 32)
+        for name, way in (("enciphering", library.aes_encrypt), ("deciphering", library.aes_decrypt))
+    ),
+    *(
+        (f"OpenSSL, AES-{8 * size} in CBC", CUT, lambda size=size: chained(size))
+        for size in (16, 24, 32)
+    ),
+    *((f"Python's hmac, SHA-{size}", CUT, lambda size=size: keyed(size)) for size in (256, 512)),
+    ("cryptography, derivations", DERIVATIONS, derived),
+]

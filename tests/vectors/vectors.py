@@ -1,11 +1,16 @@
-"""AES in CBC by SP 800-38A; and the NIST sets for AES in CBC, and RFC 4231 for HMAC, from Debian's package
-python3-cryptography-vectors."""
+"""Published values: SP 800-38A, F.2; and NIST's sets for AES in CBC and in GCM, and RFC 4231 for HMAC, from
+Debian's package python3-cryptography-vectors."""
 
 import importlib.util
 import pathlib
-import sys
 
 import library
+from tally import Missing, same
+
+# How many cases each set has: CBC in 15 files; GCM in 6, with nonces of 96 bits and tags of 128.
+CBC_CASES = 2138
+GCM_CASES = 2250
+HMAC_CASES = 6
 
 
 # SP 800-38A of 2001, F.2.1 to F.2.6: the vector, the text of four blocks, and each key with its body.
@@ -39,80 +44,96 @@ def published():
         key, body = bytes.fromhex(key), bytes.fromhex(body)
         answer, sealed = library.cbc_seal(key, iv, text)
         # The values have no padding: their blocks are the front of the padded text's.
-        assert answer == "done" and sealed[: len(text)] == body, key.hex()
-        assert library.cbc_open(key, iv, sealed) == ("done", text), key.hex()
-    print(f"vectors: SP 800-38A, F.2, {len(PUBLISHED)} passed")
+        same((answer, sealed[: len(text)]), ("done", body), key.hex())
+        same(library.cbc_open(key, iv, sealed), ("done", text), key.hex())
+        yield
 
 
 def sets():
-    """The folder of the sets, or None."""
+    """The folder of the sets."""
     found = importlib.util.find_spec("cryptography_vectors")
     if found:
         return pathlib.Path(found.origin).parent
     folder = pathlib.Path("/usr/lib/python3/dist-packages/cryptography_vectors")
-    return folder if folder.is_dir() else None
+    if not folder.is_dir():
+        raise Missing("package python3-cryptography-vectors")
+    return folder
 
 
-def cases(path, last):
-    """The records of a file: names and values up to the name `last`."""
-    record = {}
-    for line in path.read_text().splitlines():
-        name, equals, value = line.partition(" = ")
-        if not equals or line.startswith("#"):
-            continue
-        record[name.upper()] = value
-        if name.upper() in last and last <= record.keys():
-            yield record
-            record = {}
+def cases(path):
+    """The records of a file, which blank lines part: names and values, each with the lengths that stand
+    above it in brackets. A line FAIL is a name without a value."""
+    lengths = {}
+    for lines in path.read_text().split("\n\n"):
+        record = {}
+        for line in lines.splitlines():
+            name, _, value = line.strip("[]").partition("=")
+            if not line.startswith("#"):
+                (lengths if line.startswith("[") else record)[name.strip().upper()] = value.strip()
+        if "KEY" in record:
+            yield {**lengths, **record}
 
 
-def chained(folder):
-    count = 0
-    for path in sorted((folder / "ciphers" / "AES" / "CBC").glob("CBC*.rsp")):
-        for case in cases(path, {"PLAINTEXT", "CIPHERTEXT"}):
+def unpadded(text):
+    """What opening a body of this text, with no padding added, has to answer."""
+    pad = text[-1]
+    if 1 <= pad <= 16 and text.endswith(bytes([pad]) * pad):
+        return "done", text[:-pad]
+    return "bad padding", b""
+
+
+def chained():
+    for path in sorted((sets() / "ciphers" / "AES" / "CBC").glob("CBC*.rsp")):
+        for case in cases(path):
             key, iv, text, body = (
-                bytes.fromhex(case[name])
-                for name in ("KEY", "IV", "PLAINTEXT", "CIPHERTEXT")
+                bytes.fromhex(case[name]) for name in ("KEY", "IV", "PLAINTEXT", "CIPHERTEXT")
             )
             # The set has no padding: its blocks are the front of the padded text's.
             answer, sealed = library.cbc_seal(key, iv, text)
-            assert answer == "done" and sealed[: len(text)] == body, (path, case)
-            assert len(sealed) == len(text) + 16, (path, case)
-            # Two blocks deciphered one by one give the text of the set too.
+            same((answer, sealed[: len(text)], len(sealed)), ("done", body, len(text) + 16), path, case)
+            same(library.cbc_open(key, iv, sealed), ("done", text), path, case)
+            # The published body by itself: mostly its text isn't padded.
+            same(library.cbc_open(key, iv, body), unpadded(text), path, case)
+            # Block by block it gives the text of the set.
             before = iv
             for at in range(0, len(body), 16):
-                block = library.aes_decrypt(key, body[at : at + 16])
+                answer, block = library.aes_decrypt(key, body[at : at + 16])
                 plain = bytes(a ^ b for a, b in zip(block, before))
-                assert plain == text[at : at + 16], (path, case)
+                same((answer, plain), ("done", text[at : at + 16]), path, case)
                 before = body[at : at + 16]
-            assert library.cbc_open(key, iv, sealed) == ("done", text), (path, case)
-            count += 1
-    return count
+            yield
 
 
-def keyed(folder, size):
-    count = 0
-    for case in cases(folder / "HMAC" / f"rfc-4231-sha{size}.txt", {"MD"}):
+def counted():
+    for path in sorted((sets() / "ciphers" / "AES" / "GCM").glob("gcm*.rsp")):
+        for case in cases(path):
+            if (case["IVLEN"], case["TAGLEN"]) != ("96", "128"):
+                continue
+            key, nonce, aad, body, tag = (
+                bytes.fromhex(case[name]) for name in ("KEY", "IV", "AAD", "CT", "TAG")
+            )
+            opened = library.gcm_open(key, nonce, aad, body + tag)
+            if "FAIL" in case:
+                same(opened, ("bad tag", b""), path, case)
+            else:
+                text = bytes.fromhex(case["PT"])
+                same(opened, ("done", text), path, case)
+                same(library.gcm_seal(key, nonce, aad, text), ("done", body + tag), path, case)
+            yield
+
+
+def keyed(size):
+    for case in cases(sets() / "HMAC" / f"rfc-4231-sha{size}.txt"):
         key, text = bytes.fromhex(case["KEY"]), bytes.fromhex(case["MSG"])
         for cut in range(len(text) + 1):
-            value = library.hmac(size, key, text, cut)
-            assert value == bytes.fromhex(case["MD"]), (size, case, cut)
-        count += 1
-    return count
+            same(library.hmac(size, key, text, cut), bytes.fromhex(case["MD"]), size, case, cut)
+        yield
 
 
-def main():
-    published()
-    folder = sets()
-    if folder is None:
-        print("vectors: skipped, since python3-cryptography-vectors isn't installed")
-        return
-    counts = chained(folder), keyed(folder, 256), keyed(folder, 512)
-    assert all(counts), counts
-    print(
-        f"vectors: AES in CBC {counts[0]}, HMAC-SHA-256 {counts[1]}, HMAC-SHA-512 {counts[2]} passed"
-    )
-
-
-if __name__ == "__main__":
-    sys.exit(main())
+PARTS = [
+    ("SP 800-38A, F.2", len(PUBLISHED), published),
+    ("NIST, AES in CBC", CBC_CASES, chained),
+    ("NIST, AES in GCM", GCM_CASES, counted),
+    ("RFC 4231, HMAC-SHA-256", HMAC_CASES, lambda: keyed(256)),
+    ("RFC 4231, HMAC-SHA-512", HMAC_CASES, lambda: keyed(512)),
+]

@@ -70,7 +70,7 @@ parts_of-joined alg parts ml vl tl =
 
 -- ---- the length of a tag
 
-length-gcm_tag : (key nonce aad c : List ℕ) → length nonce ≡ 12 → AreBytes nonce → length (gcm_tag (aes_cipher key) nonce aad c) ≡ 16
+pub length-gcm_tag : (key nonce aad c : List ℕ) → length nonce ≡ 12 → AreBytes nonce → length (gcm_tag (aes_cipher key) nonce aad c) ≡ 16
 unfolding gcm_tag ghash block_of
 length-gcm_tag key nonce aad c len are =
     let keeps = IsBlock-aes_cipher key in

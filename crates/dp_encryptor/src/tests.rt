@@ -110,31 +110,43 @@ fn both_ways(rt: HostRuntime) -> Result<(), Fail> {
     Ok(())
 }
 
-// Each bit of a payload of no text, turned: the head is refused, another id is told, or the body was
-// tampered with.
+// Each bit of a payload of no text, turned, in each form: the head is refused, another id is told, or the
+// body was tampered with.
 #[test]
 fn each_bit(rt: HostRuntime) -> Result<(), Fail> {
-    let alg = Alg::Gcm(AesSize::A256);
+    // The bytes of the body, and the bits of the payload.
+    let cases: [(Alg, usize, usize); 3] = [
+        (Alg::Gcm(AesSize::A256), 44, 512),
+        (Alg::Cbc256(AesSize::A256), 80, 800),
+        (Alg::Cbc512(AesSize::A128), 112, 1056),
+    ];
     let headers = HeaderTable::new(rt.alloc());
-    let encryptor = Encryptor::new(rt.alloc(), alg, &MATERIAL, &headers)?;
-    let sealed = encryptor.seal(rt.alloc(), AAD, &MODIFIER, vector(alg), b"")?;
-    assert_eq!(rt; sealed.len(), 44);
-    for bit in 0..512usize {
-        let mut payload = b"\x09\xf0\xc9\xf0the id of a key.".to_vec(rt.alloc())?;
-        payload.extend_from_slice(&sealed)?;
-        assert_eq!(rt; payload.len(), 64);
-        payload[bit / 8] ^= 0x80 >> (bit % 8);
-        let told = match PayloadView::split(&payload) {
-            Err(HeadRefused::BadHeader) => bit < 28,
-            Err(HeadRefused::BadVersion) => 28 <= bit && bit < 32,
-            Ok(view) => {
-                assert!(rt; view.rest().len() == 44);
-                let body = view.body(alg).expect(&rt, "a body");
-                let opened = encryptor.open_body(rt.alloc(), AAD, body);
-                32 <= bit && opened.is_ok() == (bit < 160)
-            }
-        };
-        assert!(rt; told, "bit {bit}");
+    for (alg, len, bits) in cases {
+        let encryptor = Encryptor::new(rt.alloc(), alg, &MATERIAL, &headers)?;
+        let sealed = encryptor.seal(rt.alloc(), AAD, &MODIFIER, vector(alg), b"")?;
+        assert_eq!(rt; sealed.len(), len, "{alg:?}");
+        for bit in 0..bits {
+            let mut payload = b"\x09\xf0\xc9\xf0the id of a key.".to_vec(rt.alloc())?;
+            payload.extend_from_slice(&sealed)?;
+            assert!(rt; bit / 8 < payload.len());
+            payload[bit / 8] ^= 0x80 >> (bit % 8);
+            let told = match PayloadView::split(&payload) {
+                Err(HeadRefused::BadHeader) => bit < 28,
+                Err(HeadRefused::BadVersion) => 28 <= bit && bit < 32,
+                Ok(view) => {
+                    assert!(rt; view.rest().len() < 200);
+                    let body = view.body(alg).expect(&rt, "a body");
+                    let refused = encryptor.open_body(rt.alloc(), AAD, body).err();
+                    let wanted = if bit < 160 {
+                        None
+                    } else {
+                        Some(BodyRefused::Tampered)
+                    };
+                    32 <= bit && refused == wanted
+                }
+            };
+            assert!(rt; told, "{alg:?}, bit {bit}");
+        }
     }
     Ok(())
 }

@@ -1,0 +1,2 @@
+mod OneToOne
+mod Short

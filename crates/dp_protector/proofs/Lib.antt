@@ -1,0 +1,7 @@
+mod Bodies
+mod Codes
+mod Defaults
+mod Forms
+mod Heads
+mod Sealing
+mod Texts

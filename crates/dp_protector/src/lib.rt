@@ -6,6 +6,8 @@ mod opened;
 mod protect;
 mod refused;
 mod seal;
+#[cfg(test)]
+mod tests;
 mod text;
 mod timed;
 mod unprotect;

@@ -1,12 +1,11 @@
 -- What a body opens to under a key, from what its parts open to.
-use Rattle.std.proofs.Common.{◌≡◌, ◌⊎◌, ℕ, ◌+◌, ◌<◌, Bool, true, false, List, length, take, drop, Option, Some, None, refl, sym, ap, ◌∙◌, subst, arith, inl, inr}
+use Rattle.std.proofs.Common.{◌≡◌, ◌⊎◌, ℕ, ◌+◌, ◌<◌, true, false, List, length, drop, Option, Some, None, refl, sym, ap, ◌∙◌, subst, arith, inl, inr}
 use Rattle.std.specs.Prelude.{IsNone, nat_lt}
 use Rattle.std.proofs.lemmas.Bool.Decides.{nat_tests}
 use Rattle.dp_base.specs.Blocks.{AreBytes}
 use Rattle.dp_base.specs.Lengths.{iv_len}
 use Rattle.dp_base.specs.declared.alg.Alg.{Alg}
 use Rattle.dp_base.proofs.Parts.{AreBytes-take, AreBytes-drop}
-use Rattle.context_header.specs.Keys.{KeyPair}
 use Rattle.key_elements.specs.declared.element.KeyRecord.{KeyRecord}
 use Rattle.payload_view.specs.Payload.{AreFor, Parts, parts_of, plain_len}
 use Rattle.dp_encryptor.specs.Body.{Opens, Secret, subkeys}
@@ -28,7 +27,7 @@ open_body-short alg key chain body short =
     let tested : nat_lt (length body) (plain_len alg) ≡ true = grind (arith, nat_tests) in
     rw tested refl
 
-open_body-long : (alg : Alg) (key : KeyRecord) (chain : List (List ℕ)) (body : List ℕ) → (length body < plain_len alg → ⊥)
+pub open_body-long : (alg : Alg) (key : KeyRecord) (chain : List (List ℕ)) (body : List ℕ) → (length body < plain_len alg → ⊥)
     → open_body alg key chain body ≡ open_parts alg (subkeys (secret alg key) (aad key.id.0 chain) (parts_of alg body).modifier) (parts_of alg body)
 unfolding open_body
 open_body-long alg key chain body long =

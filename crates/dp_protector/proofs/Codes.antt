@@ -1,5 +1,5 @@
 -- Each algorithm is found by its code, and every other code has none.
-use Rattle.std.proofs.Common.{◌≡◌, ℕ, zero, suc, ◌≤◌, Option, Some, None, refl, sym, ap, ◌∙◌, subst, arith}
+use Rattle.std.proofs.Common.{◌≡◌, ℕ, zero, suc, Option, Some, None, refl, sym, subst, arith}
 use Rattle.std.specs.Prelude.{◌↔◌, IfSome, IsNone}
 use Rattle.dp_base.specs.declared.alg.AesSize.TheVariants.{A128, A192, A256}
 use Rattle.dp_base.specs.declared.alg.Alg.{Alg}

@@ -1,7 +1,7 @@
 -- The default key of a ring: it is a key of the ring, usable and unrevoked; and where there is none, no
 -- key is usable and unrevoked.
-use Rattle.std.proofs.Common.{◌≡◌, ◌⊎◌, ℕ, zero, suc, ◌+◌, ◌<◌, ◌≤◌, Bool, true, false, not, ◌==◌, ◌&&◌, List, [], ◌∷◌, length, map, get_or, Option, Some, None, refl, sym, ap, ◌∙◌, subst, arith, inl, inr}
-use Rattle.std.specs.Prelude.{find, position, is_some, slice_get, option_and_then, IsSomeAnd, AllPairs, if◌then◌else◌}
+use Rattle.std.proofs.Common.{◌≡◌, ◌⊎◌, ℕ, zero, suc, ◌<◌, Bool, true, false, not, ◌==◌, ◌&&◌, List, [], ◌∷◌, length, map, get_or, Option, Some, None, refl, sym, ap, ◌∙◌, arith, inl, inr}
+use Rattle.std.specs.Prelude.{find, position, is_some, slice_get, if◌then◌else◌}
 use Rattle.std.specs.Option.{option_or, option_map}
 use Rattle.std.proofs.lemmas.List.{length-map}
 use Rattle.std.proofs.lemmas.Option.{slice_get-map}
@@ -9,7 +9,7 @@ use Rattle.std.proofs.lemmas.Bool.Decides.{nat_tests}
 use Rattle.dp_base.specs.declared.key_id.KeyId.{KeyId}
 use Rattle.default_key.specs.declared.key_facts.KeyFacts.{KeyFacts}
 use Rattle.default_key.specs.PolicyValues.{is_maximum, is_newer, is_older, is_preferred, is_settled, is_sound, preferred_of, newest_of, oldest_of, fallback_of}
-use Rattle.default_key.specs.OrderLaws.{IsStrictWeakOrder-is_newer, IsStrictWeakOrder-is_older}
+use Rattle.default_key.specs.OrderLaws.{IsStrictWeakOrder-is_older}
 use Rattle.default_key.proofs.Exists.{position-no_maximum}
 use Rattle.default_key.proofs.Firsts.{position-has}
 use Rattle.default_key.proofs.Maxima.{is_maximum-passes}

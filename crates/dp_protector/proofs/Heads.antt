@@ -1,18 +1,17 @@
 -- What a payload opens to, from what its head is and from what the ring says of its key.
-use Rattle.std.proofs.Common.{◌≡◌, ◌≢◌, ◌⊎◌, ℕ, ◌≤◌, ◌/◌, ◌%◌, Bool, true, false, not, List, length, take, drop, Option, Some, None, Result, Ok, Err, refl, sym, ap, ◌∙◌, arith, inl, inr}
-use Rattle.std.specs.Prelude.{◌↔◌, ◌&&◌}
+use Rattle.std.proofs.Common.{◌≡◌, ◌≢◌, ℕ, ◌%◌, Bool, true, false, List, take, drop, Option, Some, None, Result, Ok, Err, refl, sym, ap, ◌∙◌, arith}
+use Rattle.std.specs.Prelude.{◌↔◌}
 use Rattle.std.proofs.lemmas.Bool.Decides.{nat_tests}
 use Rattle.dp_base.specs.Guid.{id_of_guid}
 use Rattle.dp_base.specs.declared.key_id.KeyId.{KeyId}
-use Rattle.payload_view.specs.Payload.{HasHead, first_word, magic}
+use Rattle.payload_view.specs.Payload.{HasHead, first_word}
 use Rattle.payload_view.specs.declared.head.HeadRefused.{HeadRefused}
 use Rattle.payload_view.specs.declared.head.HeadRefused.TheVariants as heads
 use Rattle.key_ring.specs.Ring.{RingOf}
 use Rattle.key_ring.specs.State.{State, lookup_of}
-use Rattle.dp_protector.specs.declared.refused.UnprotectRefused.{UnprotectRefused}
 use Rattle.dp_protector.specs.declared.refused.UnprotectRefused.TheVariants as payloads
 use Rattle.dp_protector.specs.Refusals.{of_head}
-use Rattle.dp_protector.specs.Opening.{Opening, has_head, has_version, id_in, opened, opened_under}
+use Rattle.dp_protector.specs.Opening.{has_head, has_version, id_in, opened, opened_under}
 
 head_true : (payload : List ℕ) → has_head payload ≡ true → HasHead payload
 head_true payload e = (grind (arith, nat_tests), grind (arith, nat_tests))

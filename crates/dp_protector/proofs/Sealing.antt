@@ -1,5 +1,5 @@
 -- What sealing under the default key gives.
-use Rattle.std.proofs.Common.{◌≡◌, ℕ, ◌+◌, List, ◌++◌, length, take, drop, Option, Some, None, Result, Ok, Err, refl, sym, ap, ◌∙◌}
+use Rattle.std.proofs.Common.{◌≡◌, ℕ, ◌+◌, List, ◌++◌, take, drop, Option, Some, Ok, sym, ap, ◌∙◌}
 use Rattle.dp_base.specs.Guid.{guid}
 use Rattle.dp_base.specs.Lengths.{iv_len}
 use Rattle.dp_base.specs.declared.alg.Alg.{Alg}

@@ -1,5 +1,5 @@
 -- The text of a body, as a value and as a fact.
-use Rattle.std.proofs.Common.{◌≡◌, ℕ, ◌+◌, ◌-◌, ◌<◌, ◌≤◌, ◌%◌, ◌==◌, ◌&&◌, Bool, true, false, List, [], ◌++◌, length, take, drop, Option, Some, None, refl, sym, ap, ◌∙◌, subst, arith}
+use Rattle.std.proofs.Common.{◌≡◌, ℕ, ◌%◌, ◌==◌, ◌&&◌, Bool, true, false, List, length, Some, refl, ap, ◌∙◌, subst, arith}
 use Rattle.std.specs.Prelude.{bytes_eq, nat_lt}
 use Rattle.std.specs.Cmp.Lexicographic.{bytes_decides}
 use Rattle.std.proofs.lemmas.Bool.Decides.{nat_tests}
@@ -11,15 +11,14 @@ use Rattle.dp_base.proofs.Parts.{AreBytes-take}
 use Rattle.aes_block.specs.Cipher.{aes_cipher, aes_decipher}
 use Rattle.aes_block.specs.Laws.{IsBlock-aes_cipher, IsBlock-aes_decipher, aes_cipher-aes_decipher, aes_decipher-aes_cipher}
 use Rattle.cbc_mode.specs.Cbc.{ciphertext, plaintext, HasWholeBlocks}
-use Rattle.cbc_mode.specs.Pad.{last_byte, pad}
+use Rattle.cbc_mode.specs.Pad.{pad}
 use Rattle.cbc_mode.proofs.Inverse.{AreInverse, AreBytes-plaintext, plaintext-ciphertext}
 use Rattle.cbc_mode.proofs.Opening.{HasWholeBlocks-sealed}
 use Rattle.cbc_mode.proofs.Padding.{AreBytes-pad, pad-whole, take-pad}
-use Rattle.gcm_mode.specs.Ctr.{ctr}
 use Rattle.gcm_mode.proofs.Counting.{AreBytes-ctr, ctr-ctr}
 use Rattle.context_header.specs.Keys.{KeyPair}
 use Rattle.payload_view.specs.Payload.{Parts}
-use Rattle.dp_encryptor.specs.Body.{HasTag, Opens, enciphered, tag}
+use Rattle.dp_encryptor.specs.Body.{Opens, enciphered, tag}
 use Rattle.dp_protector.specs.Opening.{before_padding, deciphered, has_whole_blocks, is_body_of, open_parts, text_if}
 
 inverse : (key : List ℕ) → AreInverse (aes_cipher key) (aes_decipher key)
@@ -93,6 +92,17 @@ deciphered-bytes (Cbc256 size) key iv c len are bytes whole = unpadded_bytes key
 deciphered-bytes (Cbc512 size) key iv c len are bytes whole = unpadded_bytes key iv c len are bytes (blocks_true c whole)
 deciphered-bytes (Gcm size) key iv c len are bytes whole = AreBytes-ctr (aes_cipher key) (IsBlock-aes_cipher key) iv len are c bytes
 
+-- what a body with a text as its value is
+pub open_parts-fact : (alg : Alg) (keys : KeyPair) (parts : Parts) (text : List ℕ) → open_parts alg keys parts ≡ Some text → Opens alg keys parts text
+unfolding open_parts
+open_parts-fact alg keys parts text e =
+    let given = text_if-some (is_body_of alg keys parts (deciphered alg keys.encryption parts.iv parts.enciphered)) (deciphered alg keys.encryption parts.iv parts.enciphered) text e in
+    let outer = and_parts (has_whole_blocks alg parts.enciphered && bytes_eq parts.tag (tag alg keys parts.iv parts.enciphered)) (bytes_eq parts.enciphered (enciphered alg keys.encryption parts.iv (deciphered alg keys.encryption parts.iv parts.enciphered))) given.0 in
+    let inner = and_parts (has_whole_blocks alg parts.enciphered) (bytes_eq parts.tag (tag alg keys parts.iv parts.enciphered)) outer.0 in
+    let tagged = (bytes_decides parts.tag (tag alg keys parts.iv parts.enciphered)).0 inner.1 in
+    let is = (bytes_decides parts.enciphered (enciphered alg keys.encryption parts.iv (deciphered alg keys.encryption parts.iv parts.enciphered))).0 outer.1 in
+    (tagged, is ∙ ap (enciphered alg keys.encryption parts.iv) given.1)
+
 -- a body that has a text as its value opens to it
 pub open_parts-opens : (alg : Alg) (keys : KeyPair) (parts : Parts) (text : List ℕ) → length parts.iv ≡ iv_len alg → AreBytes parts.iv → AreBytes parts.enciphered
     → open_parts alg keys parts ≡ Some text → Opens alg keys parts text × AreBytes text
@@ -101,6 +111,4 @@ open_parts-opens alg keys parts text len are bytes e =
     let given = text_if-some (is_body_of alg keys parts (deciphered alg keys.encryption parts.iv parts.enciphered)) (deciphered alg keys.encryption parts.iv parts.enciphered) text e in
     let outer = and_parts (has_whole_blocks alg parts.enciphered && bytes_eq parts.tag (tag alg keys parts.iv parts.enciphered)) (bytes_eq parts.enciphered (enciphered alg keys.encryption parts.iv (deciphered alg keys.encryption parts.iv parts.enciphered))) given.0 in
     let inner = and_parts (has_whole_blocks alg parts.enciphered) (bytes_eq parts.tag (tag alg keys parts.iv parts.enciphered)) outer.0 in
-    let tagged = (bytes_decides parts.tag (tag alg keys parts.iv parts.enciphered)).0 inner.1 in
-    let is = (bytes_decides parts.enciphered (enciphered alg keys.encryption parts.iv (deciphered alg keys.encryption parts.iv parts.enciphered))).0 outer.1 in
-    ((tagged, is ∙ ap (enciphered alg keys.encryption parts.iv) given.1), subst AreBytes given.1 (deciphered-bytes alg keys.encryption parts.iv parts.enciphered len are bytes inner.0))
+    (open_parts-fact alg keys parts text e, subst AreBytes given.1 (deciphered-bytes alg keys.encryption parts.iv parts.enciphered len are bytes inner.0))

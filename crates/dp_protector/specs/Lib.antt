@@ -5,3 +5,4 @@ pub mod Protect
 pub mod Opening
 pub mod Text
 pub mod Timed
+pub mod Laws

@@ -1,5 +1,5 @@
 -- What a payload opens to by a ring, and why it doesn't open.
-use Rattle.std.specs.Prelude.{◌≡◌, ◌⊎◌, ℕ, ◌+◌, ◌-◌, ◌/◌, ◌%◌, ◌==◌, ◌&&◌, Bool, true, not, nat_le, nat_lt, if◌then◌else◌, bytes_eq, List, length, take, drop, Option, Some, None, Result, Ok, Err}
+use Rattle.std.specs.Prelude.{◌≡◌, ◌⊎◌, ℕ, ◌-◌, ◌/◌, ◌%◌, ◌==◌, ◌&&◌, Bool, true, not, nat_le, nat_lt, if◌then◌else◌, bytes_eq, List, length, take, drop, Option, Some, None, Result, Ok, Err}
 use Rattle.dp_base.specs.declared.alg.Alg.{Alg}
 use Rattle.dp_base.specs.declared.alg.Alg.TheVariants.{Cbc256, Cbc512, Gcm}
 use Rattle.dp_base.specs.declared.key_id.KeyId.{KeyId}

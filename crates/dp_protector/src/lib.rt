@@ -2,6 +2,7 @@
 //! its default key, and opens what a key that it holds has sealed for the same chain of purposes.
 #![tactic(auto)]
 
+mod law;
 mod opened;
 mod protect;
 mod refused;
@@ -12,6 +13,7 @@ mod text;
 mod timed;
 mod unprotect;
 
+pub use law::{default_key_is_sound, revoked_stays_shut, same_bytes_at_every_node};
 pub use opened::{Opened, OpenedText, OpenedTimed};
 pub use protect::{MAX_PLAIN, protect_with};
 pub use refused::{ProtectRefused, TextRefused, TimedOpenRefused, UnprotectRefused};

@@ -1,2 +1,2 @@
-mod OneToOne
+pub mod OneToOne
 mod Short

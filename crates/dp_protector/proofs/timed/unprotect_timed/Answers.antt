@@ -1,4 +1,4 @@
-use Rattle.std.proofs.Common.{◌∙◌, sym, ap, refl, inl, inr, List, ℕ}
+use Rattle.std.proofs.Common.{◌∙◌, sym, ap, inl, List, ℕ}
 use Rattle.std.proofs.lemmas.Result.{err_from_is_err_and}
 use Rattle.timed_payload.specs.Timed.{split}
 use Rattle.dp_protector.specs.Opening.{opening}

@@ -1,4 +1,4 @@
-use Rattle.std.proofs.Common.{◌≡◌, refl, sym, ◌∙◌, inl, inr}
+use Rattle.std.proofs.Common.{refl, ◌∙◌, inr}
 use Rattle.std.proofs.lemmas.Result.{err_from_is_err_and}
 use Rattle.dp_base.proofs.Parts.{AreBytes-from_fits}
 use Rattle.dp_protector.proofs.Bodies.{open_body-short, open_body-is, open_body-none, body-refused, not_memory, some_not_none}

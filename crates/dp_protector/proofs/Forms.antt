@@ -2,6 +2,10 @@
 use Rattle.std.proofs.Common.{◌≡◌, ◌⊎◌, ℕ, ◌≤◌, Bool, true, false, List, [], ◌∷◌, length, Option, Some, None, Result, Ok, Err, refl, sym, ap, ◌∙◌, arith, length-append, inl, inr}
 use Rattle.std.specs.Result.{result_ok}
 use Rattle.std.specs.Str.{is_utf8}
+use Rattle.std.specs.Prelude.{◌↔◌}
+use Rattle.base64.proofs.EngineFacts.{decode_of_iff}
+use Rattle.base64.specs.declared.decode.DecodeError.{DecodeError}
+use Rattle.dp_base.specs.Blocks.{AreBytes}
 use Rattle.base64.specs.Engines.{url_safe_no_pad}
 use Rattle.base64.specs.GeneralPurpose.{IsDecodeFailure, decode_of, encode_of}
 use Rattle.base64.specs.Rfc4648.{encode_symbols}
@@ -18,7 +22,7 @@ use Rattle.dp_protector.specs.declared.refused.TimedOpenRefused.{TimedOpenRefuse
 use Rattle.dp_protector.specs.declared.refused.TimedOpenRefused.TheVariants as timed
 use Rattle.dp_protector.specs.Refusals.{of_decoding, refused_expiry, refused_in_text, refused_in_timed}
 use Rattle.dp_protector.specs.Opening.{Opening, WantsMemory, opened}
-use Rattle.dp_protector.specs.Text.{as_text, opened_payload, opened_text, payload_of}
+use Rattle.dp_protector.specs.Text.{as_text, opened_payload, opened_text, payload_of, text_of}
 use Rattle.dp_protector.specs.Timed.{TimedOpening, as_timed, opened_timed, timed_chain, without_expiry}
 
 -- ---- base64url
@@ -47,6 +51,17 @@ pub payload-refused : (why : DecodeAllocError) (text : List ℕ) → IsDecodeFai
 unfolding payload_of
 payload-refused (decoding.DecodeError why) text e = inr (refl, ap result_ok e)
 payload-refused decoding.OutOfMemory text e = inl refl
+
+some_ok : (r : Result (List ℕ) DecodeError) (payload : List ℕ) → (result_ok r ≡ Some payload) ↔ (r ≡ Ok payload)
+some_ok (Ok x) payload = (λ e. cc, λ e. cc)
+some_ok (Err why) payload = (λ e. absurd cc, λ e. absurd cc)
+
+pub payload-one : (text payload : List ℕ) → AreBytes text → AreBytes payload → (payload_of text ≡ Some payload) ↔ (text ≡ text_of payload)
+unfolding payload_of
+payload-one text payload a b =
+    let iff = decode_of_iff url_safe_no_pad text payload (refl, refl) a b in
+    let ok = some_ok (decode_of url_safe_no_pad text) payload in
+    (λ e. iff.0 (ok.0 e), λ e. ok.1 (iff.1 e))
 
 -- ---- texts
 

@@ -1,11 +1,14 @@
 -- What holds of protecting and unprotecting at any nodes: of the rings of any lists, at any moments.
-use Rattle.std.specs.Prelude.{◌≡◌, ◌≢◌, ℕ, ◌<◌, ◌^◌, ◌&&◌, Bool, false, not, IsTrue, List, length, take, drop, slice_get, Some, None, Ok}
+use Rattle.std.specs.Prelude.{◌≡◌, ◌≢◌, ◌↔◌, ℕ, ◌<◌, ◌^◌, ◌&&◌, Bool, false, not, IsTrue, List, length, take, drop, slice_get, Some, None, Ok}
 use Rattle.dp_base.specs.declared.alg.Alg.{Alg}
 use Rattle.dp_base.specs.Blocks.{AreBytes}
+use Rattle.dp_base.specs.Lengths.{iv_len}
 use Rattle.key_elements.specs.declared.element.Element.{Element}
 use Rattle.key_elements.specs.declared.element.KeyRecord.{KeyRecord}
 use Rattle.key_elements.specs.Lists.{Extends}
-use Rattle.dp_encryptor.specs.Body.{enciphered, subkeys, tag}
+use Rattle.context_header.specs.Keys.{KeyPair}
+use Rattle.payload_view.specs.Payload.{Parts}
+use Rattle.dp_encryptor.specs.Body.{Opens, enciphered, subkeys, tag}
 use Rattle.purpose_chain.specs.Chain.{IsChain, aad}
 use Rattle.key_ring.specs.Keys.{is_named, is_revoked, is_usable, keys_of}
 use Rattle.key_ring.specs.Ring.{RingOf, default_key}
@@ -13,7 +16,8 @@ use Rattle.key_ring.specs.State.{State, lookup_of}
 use Rattle.dp_protector.specs.Algorithms.{alg_of}
 use Rattle.dp_protector.specs.Payload.{secret}
 use Rattle.dp_protector.specs.Protect.{draw_len, sealing}
-use Rattle.dp_protector.specs.Opening.{Opening, id_in, opened}
+use Rattle.dp_protector.specs.Opening.{Opening, id_in, open_parts, opened}
+use Rattle.dp_protector.specs.Text.{payload_of, text_of}
 
 -- the ring seals the text under its default key, by these bytes drawn, as this payload
 pub record Seals (ring : RingOf) (chain : List (List ℕ)) (drawn text payload : List ℕ) (key : KeyRecord) : Type 0 where
@@ -67,3 +71,14 @@ DefaultIsSound = (es : List Element) (t : ℕ) (key : KeyRecord) → default_key
 abbrev pub NoneIsSound : Type 0
 NoneIsSound = (es : List Element) (t place : ℕ) (key : KeyRecord) → default_key es t ≡ None
     → slice_get (keys_of es) place ≡ Some key → (is_usable key && not (is_revoked es key)) ≡ false
+
+-- what a body opens to as a value is the text of bytes that has this body
+abbrev pub BodyHasOneText : Type 0
+BodyHasOneText = (alg : Alg) (keys : KeyPair) (parts : Parts) (text : List ℕ)
+    → length parts.iv ≡ iv_len alg → AreBytes parts.iv → AreBytes parts.enciphered
+    → (open_parts alg keys parts ≡ Some text) ↔ (Opens alg keys parts text × AreBytes text)
+
+-- a payload has one text
+abbrev pub PayloadHasOneText : Type 0
+PayloadHasOneText = (text payload : List ℕ) → AreBytes text → AreBytes payload
+    → (payload_of text ≡ Some payload) ↔ (text ≡ text_of payload)

@@ -1,6 +1,6 @@
 //! What holds at all nodes.
 
-ghost use Rattle.dp_protector.specs.Laws.{DefaultIsSound, NoneIsSound, OpensAtEveryNode, OpensForOneChain, RecordStaysShut, StaysShut};
+ghost use Rattle.dp_protector.specs.Laws.{BodyHasOneText, DefaultIsSound, NoneIsSound, OpensAtEveryNode, OpensForOneChain, PayloadHasOneText, RecordStaysShut, StaysShut};
 
 /// What one node protects, every node opens whose ring holds the key, unrevoked or allowed; for another
 /// chain it opens only where two tags are equal though their authenticated data differ.
@@ -19,4 +19,10 @@ pub fn revoked_stays_shut()
 pub fn default_key_is_sound()
     ensures sound { DefaultIsSound }
     ensures none { NoneIsSound }
+{}
+
+/// What a body opens to is the text that has this body, and a payload has one text.
+pub fn texts_are_exact()
+    ensures body { BodyHasOneText }
+    ensures payload { PayloadHasOneText }
 {}

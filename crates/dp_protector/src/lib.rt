@@ -13,7 +13,9 @@ mod text;
 mod timed;
 mod unprotect;
 
-pub use law::{default_key_is_sound, revoked_stays_shut, same_bytes_at_every_node};
+pub use law::{
+    default_key_is_sound, revoked_stays_shut, same_bytes_at_every_node, texts_are_exact,
+};
 pub use opened::{Opened, OpenedText, OpenedTimed};
 pub use protect::{MAX_PLAIN, protect_with};
 pub use refused::{ProtectRefused, TextRefused, TimedOpenRefused, UnprotectRefused};

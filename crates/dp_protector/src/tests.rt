@@ -163,11 +163,11 @@ fn refused_payloads(rt: HostRuntime) -> Result<(), Fail> {
     let mut draw = draw_of(rt.alloc(), DRAWN)?;
     let payload = protect_with(rt.alloc(), &ring, &headers, &chain, &mut draw, b"")?;
     assert_eq!(rt; payload.len(), 100);
-    let mut version = payload.clone()?;
+    let mut version = payload.as_slice().to_vec(rt.alloc())?;
     version[3] = 0xf1;
-    let mut last = payload.clone()?;
+    let mut last = payload.as_slice().to_vec(rt.alloc())?;
     last[99] ^= 1;
-    let mut id = payload.clone()?;
+    let mut id = payload.as_slice().to_vec(rt.alloc())?;
     id[4] = 0xff;
     let unknown = KeyId((ID.0 & !(0xff << 96)) | (0xff << 96));
     let cases = [
@@ -327,7 +327,7 @@ fn refused_texts(rt: HostRuntime) -> Result<(), Fail> {
     standard[86] = b'+';
     // The bits behind the last byte are set: it decodes to the same bytes, but isn't their text.
     let mut other = text.as_bytes().to_vec(rt.alloc())?;
-    other[86] += 1;
+    other[86] = other[86].wrapping_add(1);
     let cases = [
         (text.as_bytes(), TextRefused::NotText),
         (padded.as_slice(), TextRefused::BadText),

@@ -33,6 +33,7 @@ fn data(rt: HostRuntime) -> Result<(), Fail> {
     for (first, second, rest) in cases {
         let chain = Chain::new(rt.alloc(), first)?.child(rt.alloc(), second)?;
         let aad = chain.aad(rt.alloc(), &ID)?;
+        assert!(rt; aad.len() > 20);
         assert_eq!(rt; &aad[..20], HEAD, "{first} {second}");
         assert_eq!(rt; &aad[20..], rest, "{first} {second}");
         assert_eq!(rt; chain.count(), 2);

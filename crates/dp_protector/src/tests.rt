@@ -63,6 +63,15 @@ fn draw_of(alloc: Global, bytes: &[u8]) -> Result<MemDraw, Fail> {
     Ok(MemDraw::new(bytes.to_vec(alloc)?, Vec::new(alloc)))
 }
 
+// So many bytes of one value.
+fn filled(alloc: Global, byte: u8, count: usize) -> Result<Vec<u8>, Fail> {
+    let mut bytes = Vec::new(alloc);
+    for _ in 0..count {
+        bytes.push(byte)?;
+    }
+    Ok(bytes)
+}
+
 // Whether payloads that expire have a chain of their own.
 fn has_room(chain: &Chain) -> bool
     ensures { IsTrue result → HasRoom chain.now }
@@ -260,7 +269,8 @@ fn refused_texts_to_protect(rt: HostRuntime) -> Result<(), Fail> {
     let none = ring_of(rt.alloc(), &[])?;
     let ring = ring_of(rt.alloc(), &[key(ID, NOW, 9)])?;
     let mut draw = draw_of(rt.alloc(), &[])?;
-    let long = vec![in rt.alloc(); 0u8; 1_000_001]?;
+    let long = filled(rt.alloc(), 0, 1_000_001)?;
+    assert_eq!(rt; long.len(), 1_000_001);
     let told = protect_with(rt.alloc(), &none, &headers, &chain, &mut draw, &long).err();
     assert_eq!(rt; told, Some(ProtectRefused::TooLong { len: 1_000_001 }));
     let told = protect_with(rt.alloc(), &none, &headers, &chain, &mut draw, b"").err();
@@ -301,7 +311,7 @@ fn texts(rt: HostRuntime) -> Result<(), Fail> {
     assert!(rt; !opened.revoked && !opened.default_changed);
 
     let mut draw = draw_of(rt.alloc(), DRAWN)?;
-    let letters = vec![in rt.alloc(); b'p'; 600]?;
+    let letters = filled(rt.alloc(), b'p', 600)?;
     let letters = std::str::from_utf8(&letters).expect(&rt, "a text");
     let text = protect_text(rt.alloc(), &ring, &headers, &chain, &mut draw, letters)?;
     assert_eq!(rt; text.len(), 923);

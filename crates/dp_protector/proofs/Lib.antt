@@ -1,0 +1,9 @@
+mod Bodies
+mod Codes
+mod Defaults
+mod Everywhere
+mod Forms
+mod Heads
+mod Sealing
+mod Taken
+mod Texts

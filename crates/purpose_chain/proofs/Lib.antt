@@ -1,0 +1,2 @@
+pub mod OneToOne
+mod Short

@@ -4,3 +4,4 @@ pub mod Taking
 pub mod Drawing
 pub mod Turns
 pub mod Sessions
+pub mod Freshness

@@ -91,7 +91,7 @@ output-more (b ∷ bodies) (x ∷ es) body e list n =
     ap (λ (t : List ℕ). reply_frame b x list ++ t) (output-more bodies es body e list (omega (arith, n))) ∙ sym (append_assoc (reply_frame b x list) (session_output bodies es list) (reply_frame body e list))
 
 -- the list of an entry ends where the pass then stands
-abbrev HasFront : Used → List Element → Type 0
+abbrev pub HasFront : Used → List Element → Type 0
 HasFront (used.Ring front made_at) own = front ≡ length own
 HasFront (used.Placed place) own = place + 1 ≡ length own
 HasFront (used.Refused why) own = Unit {0}
@@ -113,7 +113,7 @@ place_front a r own d (used.Refused why) x v = tt
 place_front a r own d (used.BadRequest place) x v = tt
 place_front a r own d used.NoMemory x v = tt
 
-serves_front : (q : Result Request BadRequest) (now : ℕ) (u : Used) (drawn : List ℕ) (old new : Books) → Serves q now u drawn old new → HasFront u new.host.own
+pub serves_front : (q : Result Request BadRequest) (now : ℕ) (u : Used) (drawn : List ℕ) (old new : Books) → Serves q now u drawn old new → HasFront u new.host.own
 serves_front q now u drawn old new (unread why e v d same) = subst (λ (w : Used). HasFront w new.host.own) (sym v) tt
 serves_front q now u drawn old new (unstarted v d same) = subst (λ (w : Used). HasFront w new.host.own) (sym v) tt
 serves_front q now u drawn old new (misdated p e bad v d same) = subst (λ (w : Used). HasFront w new.host.own) (sym v) tt

@@ -4,3 +4,4 @@ pub mod Serving
 pub mod Frames
 pub mod Session
 pub mod Turns
+pub mod Fresh

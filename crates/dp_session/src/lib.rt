@@ -7,16 +7,13 @@ mod end;
 mod reading;
 mod serving;
 mod session;
-
-
 mod status;
 mod trace;
 
 pub use end::{BadPlace, BadWhy, SessionEnd};
 pub use session::{MAX_REQUESTS, serve_session};
-
 pub use status::Status;
 pub use trace::{Drawn, Entries, Entry, Trace, Used};
 
-
-
+#[cfg(test)]
+mod tests;

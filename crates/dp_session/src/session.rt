@@ -3,6 +3,7 @@
 ghost use Rattle.std.specs.Prelude.{◌≡◌, ◌≢◌, ◌≤◌, ◌↔◌, false, None, [], length, IsSome};
 ghost use Rattle.dp_base.specs.Counts.{one_more};
 ghost use Rattle.dp_session.specs.declared.status.Status.TheVariants.{BadInput, ReadFault, WriteFault, Spent};
+ghost use Rattle.dp_session.specs.Fresh.{AreFresh, AreCountedBy};
 ghost use Rattle.dp_session.specs.Serving.{state};
 ghost use Rattle.dp_session.specs.Session.{EndsInput, IsSpentEnd, IsSession, bad_at, outside};
 
@@ -69,6 +70,15 @@ pub fn serve_session<W, H: Host<W>, R: Repo<W>, D: Draw, C: Clock, I: Source, O:
         (outside (I.left input.new) (O.written output.new) (state (H.state host.new)
         (R.store repo.new) (D.draws draw.new) (C.moments clock.new)) result.trace.entries
         result.trace.list) }
+
+    // Nobody is answered by less than was seen before, or than was needed; the counts of repository
+    // and draw rose by what the steps say, and each refusal for a fault was counted. Both follow from
+    // the clause above, and speak of the trace alone.
+    ensures fresh { AreFresh (length (H.state host.old).own) result.trace.entries }
+    ensures counted { AreCountedBy result.trace.entries
+        (state (H.state host.old) (R.store repo.old) (D.draws draw.old) (C.moments clock.old))
+        (state (H.state host.new) (R.store repo.new) (D.draws draw.new) (C.moments clock.new)) }
+
     ensures few { length result.trace.entries ≤ MAX_REQUESTS }
     ensures spent { result.status ≡ Spent → length result.trace.entries ≡ MAX_REQUESTS }
     ensures bad { IsSome result.bad ↔ (result.status ≡ BadInput) }

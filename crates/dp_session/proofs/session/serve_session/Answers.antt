@@ -1,5 +1,6 @@
 use Rattle.std.proofs.Common.{◌≡◌, ◌≤◌, ◌+◌, ◌*◌, ◌<◌, ◌∙◌, length, refl, sym, ap, subst, arith}
 use Rattle.dp_base.specs.Counts.{one_more}
+use Rattle.dp_session.proofs.Freshness.{chain_fresh, chain_counts}
 use Rattle.dp_session.proofs.Sessions.{so_far-none, so_far-more, session_ends, session_spent, frame-bound, entries-more, ends-few, ends-spent, ends-bad}
 use Rattle.dp_session.proofs.session.serve_session.Goals as goal
 
@@ -70,3 +71,19 @@ returns-clause-no_read_fault g c = λ e. c.end_of_spent.ensures.no_read_fault e 
 
 pub returns-clause-no_write_fault : goal.returns-clause-no_write_fault
 returns-clause-no_write_fault g c = λ e. c.requests.invariant.no_write_fault
+
+pub returns-in-Err-clause-fresh : goal.returns-in-Err-clause-fresh
+returns-in-Err-clause-fresh g c =
+    let s = returns-in-Err-clause-session g c in chain_fresh _ s.bodies _ _ _ (omega arith) s.chain
+
+pub returns-in-Err-clause-counted : goal.returns-in-Err-clause-counted
+returns-in-Err-clause-counted g c =
+    let s = returns-in-Err-clause-session g c in chain_counts s.bodies _ _ _ s.chain
+
+pub returns-clause-fresh : goal.returns-clause-fresh
+returns-clause-fresh g c =
+    let s = returns-clause-session g c in chain_fresh _ s.bodies _ _ _ (omega arith) s.chain
+
+pub returns-clause-counted : goal.returns-clause-counted
+returns-clause-counted g c =
+    let s = returns-clause-session g c in chain_counts s.bodies _ _ _ s.chain

@@ -1,0 +1,57 @@
+-- What the entries of a session say of what its callers had seen, and of what was counted.
+use Rattle.std.specs.Prelude.{◌≡◌, ℕ, ◌+◌, ◌≤◌, max, true, List, [], ◌∷◌, ◌++◌}
+use Rattle.std.specs.List.{AllByRecursion, flat_map}
+use Rattle.dp_base.specs.Counts.{more}
+use Rattle.ring_world.specs.declared.step.Step.{Step}
+use Rattle.ring_world.specs.Flight.{Refusal, StoreFault, DrawFault, Shorter, Behind, Forked, Full, BadDates, Memory}
+use Rattle.dp_node.specs.Books.{tally, draws_failed}
+use Rattle.dp_node.specs.Gather.{refusal}
+use Rattle.dp_session.specs.declared.trace.Entry.{Entry}
+use Rattle.dp_session.specs.declared.trace.Used.{Used}
+use Rattle.dp_session.specs.declared.trace.Used.TheVariants as used
+use Rattle.dp_session.specs.Serving.{State}
+use Rattle.dp_session.specs.Session.{front_of, has_list}
+
+-- a request that used a list used one of as many elements as it needed and as were seen before it
+abbrev pub IsFresh : Entry → Type 0
+IsFresh e = has_list e.used ≡ true → (e.need ≤ front_of e.used) × (e.seen ≤ front_of e.used)
+
+-- and each later one had seen what was seen and used before it
+abbrev pub AreFresh : ℕ → List Entry → Type 0
+AreFresh seen [] = Unit {0}
+AreFresh seen (e ∷ es) =
+    (seen ≤ e.seen) × IsFresh e × AreFresh (max e.seen (front_of e.used)) es
+
+-- steps that count what they were refused for: a fault of the repository or of the draw, a repository
+-- with fewer elements than it had, or a full one
+abbrev pub AreCounted : Refusal → List Step → Type 0
+AreCounted StoreFault steps = 1 ≤ (tally steps).faults
+AreCounted DrawFault steps = 1 ≤ draws_failed steps
+AreCounted (Shorter had got) steps = 1 ≤ (tally steps).shorts
+AreCounted (Behind have need) steps = Unit {0}
+AreCounted (Forked at left right) steps = Unit {0}
+AreCounted (Full count) steps = 1 ≤ (tally steps).fulls
+AreCounted BadDates steps = Unit {0}
+AreCounted Memory steps = Unit {0}
+
+abbrev pub IsCounted : Used → List Step → Type 0
+IsCounted (used.Ring front made_at) steps = Unit {0}
+IsCounted (used.Placed place) steps = Unit {0}
+IsCounted (used.Refused why) steps = AreCounted (refusal why) steps
+IsCounted (used.BadRequest place) steps = Unit {0}
+IsCounted used.NoMemory steps = Unit {0}
+
+-- a number of each entry, added up
+abbrev pub total : (Entry → ℕ) → List Entry → ℕ
+total f [] = 0
+total f (e ∷ es) = f e + total f es
+
+-- the counts of repository and draw rose by what the steps of the entries say, its places are those
+-- of their appends, and each refusal that has a count has it
+pub record AreCountedBy (es : List Entry) (old new : State) : Type 0 where
+  pub faults : new.store.faults ≡ more (total (λ e. (tally e.steps).faults) es) old.store.faults
+  pub shorts : new.store.shorts ≡ more (total (λ e. (tally e.steps).shorts) es) old.store.shorts
+  pub fulls : new.store.fulls ≡ more (total (λ e. (tally e.steps).fulls) es) old.store.fulls
+  pub mine : new.store.mine ≡ old.store.mine ++ flat_map (λ e. (tally e.steps).places) es
+  pub draws : new.draws.faults ≡ more (total (λ e. draws_failed e.steps) es) old.draws.faults
+  pub refused : AllByRecursion (λ e. IsCounted e.used e.steps) es

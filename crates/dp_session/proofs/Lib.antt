@@ -5,3 +5,4 @@ pub mod Drawing
 pub mod Turns
 pub mod Sessions
 pub mod Freshness
+pub mod Whole

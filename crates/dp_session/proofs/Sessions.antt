@@ -40,7 +40,7 @@ chain-more [] (x ∷ es) a b c body e p q = absurd p
 chain-more (x ∷ bodies) [] a b c body e p q = absurd p
 chain-more (x ∷ bodies) (y ∷ es) a b c body e p q = (p.0, p.1, chain-more bodies es p.0 b c body e p.2 q)
 
-same_lengths : (bodies : List (List ℕ)) (es : List Entry) (a b : State) → Chain bodies es a b → length bodies ≡ length es
+pub same_lengths : (bodies : List (List ℕ)) (es : List Entry) (a b : State) → Chain bodies es a b → length bodies ≡ length es
 same_lengths [] [] a b p = refl
 same_lengths [] (y ∷ es) a b p = absurd p
 same_lengths (x ∷ bodies) [] a b p = absurd p

@@ -25,6 +25,11 @@ frames bodies = flat_map frame bodies
 abbrev pub AreBodies : List (List ℕ) → Type 0
 AreBodies bodies = AllByRecursion (λ body. IsBodyLen (length body)) bodies
 
+-- the bytes are whole frames, of so many bodies at the most
+abbrev pub AreWhole : ℕ → List ℕ → Type 0
+AreWhole most bytes =
+    (bodies : List (List ℕ)) × AreBodies bodies × (length bodies ≤ most) × (bytes ≡ frames bodies)
+
 -- the length that the first four bytes give
 abbrev pub head_len : List ℕ → ℕ
 head_len bytes = from_be_bytes w32 (take 4 bytes)

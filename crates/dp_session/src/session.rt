@@ -1,8 +1,9 @@
 //! A session of framed requests.
 
-ghost use Rattle.std.specs.Prelude.{◌≡◌, ◌≢◌, ◌≤◌, ◌↔◌, false, None, [], length, IsSome};
+ghost use Rattle.std.specs.Prelude.{◌≡◌, ◌≢◌, ◌≤◌, ◌↔◌, false, None, [], length, IfSome, IsSome};
 ghost use Rattle.dp_base.specs.Counts.{one_more};
 ghost use Rattle.dp_session.specs.declared.status.Status.TheVariants.{BadInput, ReadFault, WriteFault, Spent};
+ghost use Rattle.dp_session.specs.Frames.{AreWhole};
 ghost use Rattle.dp_session.specs.Fresh.{AreFresh, AreCountedBy};
 ghost use Rattle.dp_session.specs.Serving.{state};
 ghost use Rattle.dp_session.specs.Session.{EndsInput, IsSpentEnd, IsSession, bad_at, outside};
@@ -82,6 +83,10 @@ pub fn serve_session<W, H: Host<W>, R: Repo<W>, D: Draw, C: Clock, I: Source, O:
     ensures few { length result.trace.entries ≤ MAX_REQUESTS }
     ensures spent { result.status ≡ Spent → length result.trace.entries ≡ MAX_REQUESTS }
     ensures bad { IsSome result.bad ↔ (result.status ≡ BadInput) }
+
+    // Whole frames, not too many, are never refused.
+    ensures whole { IfSome (I.left input.old) (λ bytes. AreWhole MAX_REQUESTS bytes
+        → (result.status ≢ BadInput) × (result.status ≢ Spent)) }
     ensures free { (H.state host.new).held ≡ false }
 
     // One fault is counted where a read or a write failed, and none else.

@@ -1,6 +1,7 @@
-use Rattle.std.proofs.Common.{◌≡◌, ◌≤◌, ◌+◌, ◌*◌, ◌<◌, ◌∙◌, length, refl, sym, ap, subst, arith}
+use Rattle.std.proofs.Common.{◌≡◌, ◌≤◌, ◌+◌, ◌*◌, ◌<◌, ◌∙◌, length, None, refl, sym, ap, subst, arith}
 use Rattle.dp_base.specs.Counts.{one_more}
 use Rattle.dp_session.proofs.Freshness.{chain_fresh, chain_counts}
+use Rattle.dp_session.proofs.Whole.{whole_input, spent_bad}
 use Rattle.dp_session.proofs.Sessions.{so_far-none, so_far-more, session_ends, session_spent, frame-bound, entries-more, ends-few, ends-spent, ends-bad}
 use Rattle.dp_session.proofs.session.serve_session.Goals as goal
 
@@ -87,3 +88,11 @@ returns-clause-fresh g c =
 pub returns-clause-counted : goal.returns-clause-counted
 returns-clause-counted g c =
     let s = returns-clause-session g c in chain_counts s.bodies _ _ _ s.chain
+
+pub returns-in-Err-clause-whole : goal.returns-in-Err-clause-whole
+returns-in-Err-clause-whole g c =
+    whole_input c.in-Err.halt.status c.bad_place.result _ _ (returns-in-Err-clause-session g c) (returns-in-Err-clause-bad g c).1 (λ e. absurd (ends-spent c.in-Err.halt.status c.in-Err.halt.bad _ _ c.in-Err.ensures.err e))
+
+pub returns-clause-whole : goal.returns-clause-whole
+returns-clause-whole g c =
+    whole_input c.end_of_spent.result None _ _ (returns-clause-session g c) (λ e. absurd (spent_bad c.end_of_spent.result c.end_of_spent.ensures.status e)) (returns-clause-spent g c)

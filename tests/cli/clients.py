@@ -149,6 +149,34 @@ def bad_frame(program):
     return faults
 
 
+# No random bytes are to be had here, and nothing else in the system changes.
+NO_BYTES = 'mount --bind /dev/null /dev/urandom && exec "$0" "$@"'
+
+
+def no_random_bytes(program):
+    """Without random bytes for the first ring the session ends before it reads. Skipped where this
+    system doesn't let a process have a view of its own of /dev/urandom."""
+    alone = ["unshare", "--map-root-user", "--mount", "sh", "-c", NO_BYTES]
+    try:
+        if subprocess.run([*alone, "true"], stderr=subprocess.DEVNULL).returncode != 0:
+            return []
+    except OSError:
+        return []
+    faults = []
+    for words in (["pipe"], ["pipe", "--no-auto"]):
+        told = subprocess.run(
+            [*alone, program, *words],
+            input=frame(ring()),
+            stdout=subprocess.PIPE,
+            stderr=subprocess.PIPE,
+            timeout=SECONDS,
+        )
+        error = b"dp_server: drawing random bytes failed\n"
+        if (told.returncode, told.stdout, told.stderr) != (7, b"", error):
+            faults.append(f"{words} gives {told}")
+    return faults
+
+
 # What is printed of the sample: T stands for a moment, I for the key's id.
 SAMPLE = """\
 > ring need 0
@@ -306,6 +334,7 @@ def all_clients():
         ("a client that waits, with automatic keys", life_of_a_key),
         ("a client that sends frames in two pieces", pieces),
         ("a client that sends a bad frame", bad_frame),
+        ("a session without random bytes", no_random_bytes),
         ("samples/session.txt", sample_session),
         ("samples/requests.py there and back", requests_and_replies),
         ("samples/requests.py on what are no requests", bad_texts),

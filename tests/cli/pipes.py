@@ -288,13 +288,17 @@ def counts():
         made.append(ended(name, most + more, lawful(bodies), 9, SPENT))
     endless = 'cat - /dev/zero | "$0" "$@"'
     made.append(ended("zeros without end after them", most, lawful(bodies), 9, SPENT, shell=endless))
+    return made
+
+
+def slow_cases():
+    """A session that fills its repository, which takes time that grows with the square."""
     # With the opening's key these are as many elements as a list may have.
     filling = frame(revoke(small_id("a"))) * (MAX_REQUESTS - 1)
     placed = [b"\0" + number(it + 2) for it in range(MAX_REQUESTS - 1)]
     full = bytes.fromhex("08 00 00 00 00 00 00 40 00")
-    words = ["pipe"]
-    made.append(ended("a full repository", filling + ROLL, [*placed, full], words=words))
-    return made
+    given = filling + ROLL
+    return [ended("a full repository", given, [*placed, full], words=["pipe"])]
 
 
 def streams():

@@ -2,3 +2,4 @@ pub mod Decimals
 pub mod Lawful
 pub mod Lengths
 pub mod BadPlaces
+pub mod Openings

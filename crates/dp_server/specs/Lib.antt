@@ -3,3 +3,4 @@ pub mod Words
 pub mod Commands
 pub mod Show
 pub mod Outcomes
+pub mod Pipe

@@ -5,7 +5,6 @@ use Rattle.key_elements.specs.declared.element.Element.{Element}
 use Rattle.key_elements.specs.Record.{IsList}
 use Rattle.key_ring.specs.Listing.{listing}
 use Rattle.dp_server.specs.declared.transfer.TheConstants.{MAX_INPUT}
-use Rattle.dp_server.specs.Words.{IsShow}
 
 -- the bytes are a list of elements
 abbrev pub IsListed : List ℕ → Type 0
@@ -26,7 +25,3 @@ pub record Shows (moment : ℕ) (left after : Option (List ℕ)) (writes : List 
   pub list : List Element
   pub input : IsWhole left after list
   pub output : writes (listing list (min moment LAST))
-
--- the words are show and a moment of which this holds
-abbrev pub IsShowAnd : List (List ℕ) → (ℕ → Type 0) → Type 0
-IsShowAnd words holds = (moment : ℕ) × IsShow words moment × holds moment

@@ -1,5 +1,5 @@
 -- The lawful words of the program (docs/FORMATS.md, "Words").
-use Rattle.std.specs.Prelude.{◌≡◌, ◌≢◌, ℕ, ◌≤◌, List, [], ◌∷◌, length, slice_index, codes}
+use Rattle.std.specs.Prelude.{◌≡◌, ◌≢◌, ℕ, ◌≤◌, List, [], ◌∷◌, length, Bool, true, false, slice_index, codes}
 use Rattle.std.specs.Fmt.{decimal}
 use Rattle.dp_base.specs.declared.ticks.TheConstants.{MAX_TICKS}
 
@@ -11,6 +11,7 @@ IsPlain text = (slice_index text 0 ≢ 43) × (slice_index text 0 ≡ 48 → len
 abbrev pub IsShow : List (List ℕ) → ℕ → Type 0
 IsShow words moment = (words ≡ codes "show" ∷ decimal moment ∷ []) × (moment ≤ MAX_TICKS)
 
--- the words are of the one lawful form
-abbrev pub IsLawful : List (List ℕ) → Type 0
-IsLawful words = (moment : ℕ) × IsShow words moment
+-- the words are pipe, with or without the keys that are made automatically
+abbrev pub IsPipe : List (List ℕ) → Bool → Type 0
+IsPipe words true = words ≡ codes "pipe" ∷ []
+IsPipe words false = words ≡ codes "pipe" ∷ codes "--no-auto" ∷ []

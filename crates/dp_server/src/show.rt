@@ -4,24 +4,24 @@ ghost use Rattle.std.specs.Prelude.{◌≡◌, ◌≢◌, ◌+◌, ◌≤◌, �
 ghost use Rattle.dp_base.specs.declared.ticks.TheConstants.{LAST};
 ghost use Rattle.dp_base.specs.Counts.{one_more};
 ghost use Rattle.key_ring.specs.Listing.{listing};
-ghost use Rattle.dp_server.specs.declared.status.Status.TheVariants.{Done, BadWords, BadInput, ReadFault, WriteFault};
+ghost use Rattle.dp_session.specs.declared.status.Status.TheVariants.{Done, BadInput, ReadFault, WriteFault};
 ghost use Rattle.dp_server.specs.declared.transfer.TheConstants.{MAX_INPUT};
-ghost use Rattle.dp_server.specs.Statuses.{IsAccepting, IsRefusing};
+ghost use Rattle.dp_server.specs.Statuses.{IsAccepting, IsRefusing, IsShowStatus};
 ghost use Rattle.dp_base.specs.Transfer.{TakesAtMost, Writes, WritesFront};
 ghost use Rattle.dp_server.specs.Outcomes.{IsBadPlace};
 ghost use Rattle.dp_server.specs.Show.{IsListed, IsRefused, IsWhole, Shows};
 
-use crate::outcome::Outcome;
-use crate::status::Status;
+use crate::outcome::ShowEnd;
 use crate::transfer::{ReadRefused, read_input};
 use default_key::Options;
 use dp_base::{LAST, Memory, Sink, Source, write_all};
 use key_elements::{ElementList, read_list};
+use dp_session::Status;
 use key_ring::Ring;
 use std::alloc::Global;
 
 // The list that the whole input is, or how the run ends.
-fn input_list<I: Source>(alloc: Global, input: &mut I) -> Result<ElementList, Outcome>
+fn input_list<I: Source>(alloc: Global, input: &mut I) -> Result<ElementList, ShowEnd>
     ensures list { IfOk result (IsWhole (I.left input.old) (I.left input.new)) }
     ensures status { IfErr result (λ end. IsRefusing end.status) }
     ensures bad_input { IfErr result (λ end. end.status ≡ BadInput
@@ -36,12 +36,12 @@ fn input_list<I: Source>(alloc: Global, input: &mut I) -> Result<ElementList, Ou
 {
     let bytes = match read_input(alloc, input) {
         Ok(bytes) => bytes,
-        Err(ReadRefused::Failed) => return Err(Outcome::of(Status::ReadFault)),
-        Err(ReadRefused::Memory) => return Err(Outcome::of(Status::NoMemory)),
+        Err(ReadRefused::Failed) => return Err(ShowEnd::of(Status::ReadFault)),
+        Err(ReadRefused::Memory) => return Err(ShowEnd::of(Status::NoMemory)),
     };
     match read_list(alloc, bytes.as_slice()) {
         Ok(list) => Ok(list),
-        Err(refused) => Err(Outcome::of_refusal(refused)),
+        Err(refused) => Err(ShowEnd::of_refusal(refused)),
     }
 }
 
@@ -55,13 +55,13 @@ fn listing_at(alloc: Global, list: ElementList, made_at: u64) -> Result<String, 
 
 /// Reads a list of elements, and writes the listing of its ring at the moment, in ticks. Nothing is
 /// written unless the whole input is a list.
-pub fn show<I: Source, O: Sink>(
+pub(crate) fn show<I: Source, O: Sink>(
     alloc: Global,
     moment: u64,
     input: &mut I,
     output: &mut O,
-) -> Outcome
-    ensures words { result.status ≢ BadWords }
+) -> ShowEnd
+    ensures status { IsShowStatus result.status }
     ensures done { result.status ≡ Done → Shows moment (I.left input.old) (I.left input.new)
         (Writes (O.written output.old) (O.written output.new)) }
     ensures front { result.status ≡ WriteFault → Shows moment (I.left input.old) (I.left input.new)
@@ -85,10 +85,10 @@ pub fn show<I: Source, O: Sink>(
     };
     let text = match listing_at(alloc, list, moment.min(LAST)) {
         Ok(text) => text,
-        Err(_) => return Outcome::of(Status::NoMemory),
+        Err(_) => return ShowEnd::of(Status::NoMemory),
     };
     match write_all(output, text.as_bytes()) {
-        Ok(()) => Outcome::of(Status::Done),
-        Err(_) => Outcome::of(Status::WriteFault),
+        Ok(()) => ShowEnd::of(Status::Done),
+        Err(_) => ShowEnd::of(Status::WriteFault),
     }
 }

@@ -1,6 +1,6 @@
 use super::*;
-use crate::outcome::{BadPlace, BadWhy};
-use dp_base::{KeyId, MemSink, MemSource};
+use dp_base::{KeyId, MemClock, MemDraw, MemSink, MemSource};
+use dp_session::{BadPlace, BadWhy};
 use key_elements::{Element, ElementRefused, KeyRecord, Reason, encode};
 use std::alloc::Global;
 use std::test::Fail;
@@ -52,6 +52,13 @@ const WELL: Outside<'static> = Outside {
     fail_writes: &[],
 };
 
+fn empty_repo(alloc: Global) -> OwnRepo<MemKeeper> {
+    OwnRepo::new(
+        alloc,
+        MemKeeper::new(ElementList::empty(), Vec::new(alloc)),
+    )
+}
+
 // How the run ended, and the text written.
 fn answer(
     alloc: Global,
@@ -66,7 +73,19 @@ fn answer(
     let piece = outside.piece.max(1);
     let mut input = MemSource::new(bytes, piece, outside.fail_reads.to_vec(alloc)?);
     let mut output = MemSink::new(alloc, piece, outside.fail_writes.to_vec(alloc)?);
-    let outcome = run(alloc, words.as_slice(), &mut input, &mut output);
+    let mut repo = empty_repo(alloc);
+    let mut draw = MemDraw::new(Vec::new(alloc), Vec::new(alloc));
+    let mut clock = MemClock::new(Vec::new(alloc));
+    let words = words.as_slice();
+    let outcome = run(
+        alloc,
+        words,
+        &mut repo,
+        &mut draw,
+        &mut clock,
+        &mut input,
+        &mut output,
+    );
     let written = String::from_utf8(output.into_bytes()).ok().ok_or("text")?;
     Ok((outcome, written))
 }
@@ -263,21 +282,4 @@ fn faults(rt: HostRuntime) -> Result<(), Fail> {
         assert_eq!(rt; text.as_str(), written);
     }
     Ok(())
-}
-
-// docs/FORMATS.md, "Statuses".
-#[test]
-fn statuses(rt: HostRuntime) {
-    let table = [
-        (Status::Done, 0, None),
-        (Status::BadWords, 2, Some("dp_server: bad words")),
-        (Status::BadInput, 3, None),
-        (Status::ReadFault, 4, Some("dp_server: reading failed")),
-        (Status::WriteFault, 5, Some("dp_server: writing failed")),
-        (Status::NoMemory, 8, Some("dp_server: out of memory")),
-    ];
-    for (status, number, message) in table {
-        assert_eq!(rt; status.number(), number);
-        assert_eq!(rt; status.message(), message, "{number}");
-    }
 }

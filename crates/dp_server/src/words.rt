@@ -1,11 +1,10 @@
 //! The words of the program (docs/FORMATS.md, "Words").
 
-ghost use Rattle.std.specs.Prelude.{◌≡◌, ◌≤◌, ◌↔◌, ℕ, IfSome, Some, IsNone, IsTrue, map, string_bytes};
+ghost use Rattle.std.specs.Prelude.{◌≡◌, ◌≤◌, ◌↔◌, ℕ, IfSome, Some, IsNone, IsTrue, List, [], ◌∷◌, map, string_bytes};
 ghost use Rattle.std.specs.Fmt.{decimal};
 ghost use Rattle.dp_base.specs.declared.ticks.TheConstants.{MAX_TICKS};
-ghost use Rattle.dp_server.specs.Words.{IsPlain, IsShow, IsLawful};
-ghost use Rattle.dp_server.specs.Commands.{IsCommand};
-ghost use Rattle.dp_server.specs.declared.words.Command.TheVariants.{Show};
+ghost use Rattle.dp_server.specs.Words.{IsPlain};
+ghost use Rattle.dp_server.specs.Commands.{IsCommand, IsLawful};
 
 use dp_base::MAX_TICKS;
 
@@ -14,6 +13,9 @@ use dp_base::MAX_TICKS;
 pub enum Command {
     /// The listing at a moment in ticks, at most `MAX_TICKS`.
     Show { moment: u64 },
+    /// A session of requests over a repository that starts empty; whether keys are made
+    /// automatically.
+    Pipe { auto: bool },
 }
 
 // Whether the text has no sign, and no zero in front of more digits.
@@ -40,18 +42,43 @@ fn moment_of(text: &str) -> Option<u64>
     }
 }
 
+// The command of one word.
+fn one_word(command: &str) -> Option<Command>
+    ensures value { IfSome result (IsCommand (command.now ∷ [])) }
+    ensures only { (c : Command) → IsCommand (command.now ∷ []) c → result ≡ Some c }
+{
+    match command {
+        "pipe" => Some(Command::Pipe { auto: true }),
+        _ => None,
+    }
+}
+
+// The command of two words.
+fn two_words(command: &str, second: &str) -> Option<Command>
+    ensures value { IfSome result (IsCommand (command.now ∷ second.now ∷ [])) }
+    ensures only { (c : Command) → IsCommand (command.now ∷ second.now ∷ []) c
+        → result ≡ Some c }
+{
+    if command == "show" {
+        let moment = moment_of(second)?;
+        return Some(Command::Show { moment });
+    }
+    if command == "pipe" && second == "--no-auto" {
+        return Some(Command::Pipe { auto: false });
+    }
+    None
+}
+
 /// The command of the words: `show` and a moment, in decimal digits with no sign and no zero in
-/// front.
+/// front; `pipe`, with or without `--no-auto`.
 pub fn command_of(words: &[String]) -> Option<Command>
     ensures value { IfSome result (IsCommand (map string_bytes words.now)) }
-    ensures only { (n : ℕ) → IsShow (map string_bytes words.now) n → result ≡ Some (Show n) }
+    ensures only { (c : Command) → IsCommand (map string_bytes words.now) c → result ≡ Some c }
     ensures none { IsNone result ↔ ¬ IsLawful (map string_bytes words.now) }
 {
     match words {
-        [command, moment] if command.as_str() == "show" => {
-            let moment = moment_of(moment.as_str())?;
-            Some(Command::Show { moment })
-        }
+        [command] => one_word(command.as_str()),
+        [command, second] => two_words(command.as_str(), second.as_str()),
         _ => None,
     }
 }

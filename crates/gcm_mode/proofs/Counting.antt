@@ -71,6 +71,25 @@ take-piece bytes a e end =
     let count : e - a ≡ min 16 (length (drop a bytes)) = omega arith in
     rw count (take_min 16 (drop a bytes))
 
+-- the step of a piece from the place 16 i to the place e, of k bytes, under the number i + 2
+pub gctr-piece : (f : List ℕ → List ℕ) (nonce whole bytes ys : List ℕ) (i e k : ℕ) →
+    length (f (counter_block nonce (2 + i))) ≡ 16 → e ≡ min (length bytes) (16 * i + 16) → k ≡ e - 16 * i →
+    16 * i < length bytes → ys ≡ xor_bytes (take k (drop (16 * i) bytes)) (f (counter_block nonce (2 + i))) →
+    whole ≡ take (16 * i) bytes ++ gctr f nonce (2 + i) (drop (16 * i) bytes) →
+    whole ≡ take (16 * (i + 1)) (put_mid (16 * i) k bytes ys) ++ gctr f nonce (2 + (i + 1)) (drop (16 * (i + 1)) (put_mid (16 * i) k bytes ys))
+gctr-piece f nonce whole bytes ys i e k full end part within is so_far =
+    let rest = length-drop (16 * i) bytes in
+    let number : 2 + i + 1 ≡ 2 + (i + 1) = omega arith in
+    let next : 16 * (i + 1) ≡ 16 * i + 16 = omega arith in
+    let step = rw number at (gctr-cons f nonce (2 + i) (drop (16 * i) bytes) (omega arith) full) in
+    let piece = rw (← part) at (take-piece bytes (16 * i) e end) in
+    let same : ys ≡ xor_bytes (take 16 (drop (16 * i) bytes)) (f (counter_block nonce (2 + i))) = is ∙ rw piece refl in
+    let short = length-take k (drop (16 * i) bytes) in
+    let all = length-xor_bytes-le (take k (drop (16 * i) bytes)) (f (counter_block nonce (2 + i))) (omega arith) in
+    let len : length ys ≡ k = ap length is ∙ omega arith in
+    written (gctr f nonce (2 + i)) (gctr f nonce (2 + (i + 1))) whole bytes ys (16 * i) (16 * (i + 1)) k e
+    next (rw next end) part within len so_far (rw same step)
+
 -- ---- counter mode undoes itself, where the cipher keeps blocks blocks
 
 AreBytes-be32 : (n : ℕ) → AreBytes (to_be_bytes w32 n)

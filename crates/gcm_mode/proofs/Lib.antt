@@ -1,4 +1,7 @@
+pub mod Combing
 pub mod Counting
 mod Facts
 pub mod Hashing
-pub mod Products
+pub mod Multiples
+pub mod Reducing
+pub mod Turns

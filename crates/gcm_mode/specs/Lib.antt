@@ -1,4 +1,5 @@
 pub mod Ctr
 pub mod Gcm
 pub mod Ghash
+pub mod Key
 pub mod Product

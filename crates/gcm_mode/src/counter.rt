@@ -10,10 +10,14 @@ pub fn encipher<B: BlockCipher>(cipher: &B, nonce: &[u8; 12], bytes: &mut [u8])
     requires { length bytes.old < 2 ^ 32 }
     ensures { bytes.new ≡ ctr (B.cipher cipher.now) nonce.now bytes.old }
 {
-    for i in 0..bytes.len().div_ceil(16) {
-        let end = bytes.len().min(16 * i + 16);
+    let whole = bytes.len() / 16;
+    for i in 0..whole {
         let stream = stream_block(cipher, nonce, 2 + i as u32);
-        xor_into(&mut bytes[16 * i..end], &stream);
+        xor_into(&mut bytes[16 * i..16 * i + 16], &stream);
+    }
+    if 16 * whole < bytes.len() {
+        let stream = stream_block(cipher, nonce, 2 + whole as u32);
+        xor_into(&mut bytes[16 * whole..], &stream);
     }
 }
 

@@ -5,33 +5,44 @@ ghost use Rattle.std.specs.Int.{w64, to_be_bytes};
 ghost use Rattle.dp_base.specs.Split.{blocks};
 ghost use Rattle.gcm_mode.specs.Ghash.{ghash, hash_blocks, zero_filled};
 
-use crate::product::{block_of, number_of, product};
+use crate::key::GhashKey;
+use crate::product::{block_of, number_of};
 use dp_base::be64;
 
 /// The hash under `h` of additional data and a text, each filled with zeros to whole blocks of 16
-/// bytes, and of their lengths in bits. Takes no memory. It works bit by bit, and not in constant
+/// bytes, and of their lengths in bits. Takes no memory. It works by a table, and not in constant
 /// time.
 pub fn ghash(h: &[u8; 16], aad: &[u8], text: &[u8]) -> [u8; 16]
     requires aad { length aad.now < 2 ^ 32 }
     requires text { length text.now < 2 ^ 32 }
     ensures { result ≡ ghash h.now aad.now text.now }
 {
-    let key = number_of(h);
-    let state = absorbed(key, absorbed(key, 0, aad), text);
+    let key = GhashKey::new(h);
+    let state = absorbed(&key, absorbed(&key, 0, aad), text);
     let lengths = length_block(aad.len(), text.len());
-    block_of(product(state ^ number_of(&lengths), key))
+    block_of(key.product(state ^ number_of(&lengths)))
 }
 
 // The state after the bytes, filled with zeros to whole blocks.
-fn absorbed(key: u128, state: u128, bytes: &[u8]) -> u128
-    requires { length bytes.now < 2 ^ 32 }
-    ensures { result ≡ hash_blocks key state (blocks (zero_filled bytes.now)) }
+fn absorbed(key: &GhashKey, state: u128, bytes: &[u8]) -> u128
+    ensures { result ≡ hash_blocks key.now state (blocks (zero_filled bytes.now)) }
+{
+    let (whole, rest) = bytes.as_chunks::<16>();
+    let y = absorbed_blocks(key, state, whole);
+    if rest.is_empty() {
+        y
+    } else {
+        key.product(y ^ number_of(&filled(rest)))
+    }
+}
+
+// The state after the blocks.
+fn absorbed_blocks(key: &GhashKey, state: u128, blocks: &[[u8; 16]]) -> u128
+    ensures { result ≡ hash_blocks key.now state blocks.now }
 {
     let mut y = state;
-    for i in 0..bytes.len().div_ceil(16) {
-        let end = bytes.len().min(16 * i + 16);
-        let block = filled(&bytes[16 * i..end]);
-        y = product(y ^ number_of(&block), key);
+    for block in blocks {
+        y = key.product(y ^ number_of(block));
     }
     y
 }

@@ -3,10 +3,13 @@
 
 mod counter;
 mod hash;
+mod key;
 mod product;
 mod seal;
 #[cfg(test)]
 mod tests;
 
 pub use hash::ghash;
+pub use key::GhashKey;
+pub use product::product_of_sums;
 pub use seal::{GcmRefused, gcm_open, gcm_seal, gcm_tag};

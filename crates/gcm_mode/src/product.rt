@@ -1,7 +1,7 @@
 //! Blocks as elements of GF(2^128) (SP 800-38D, 6.3): a block is the number of its bytes, high byte
 //! first.
 
-ghost use Rattle.std.specs.Prelude.{◌≡◌};
+ghost use Rattle.std.specs.Prelude.{◌≡◌, ℕ, bit_xor};
 ghost use Rattle.gcm_mode.specs.Product.{block_of, next_multiple, number_of, product};
 
 // R: the bits 11100001 and 120 zeros.
@@ -21,23 +21,8 @@ pub fn block_of(number: u128) -> [u8; 16]
     number.to_be_bytes()
 }
 
-// The product, bit by bit of the first factor.
-pub fn product(x: u128, y: u128) -> u128
-    ensures { result ≡ product x y }
-{
-    let mut sum = 0;
-    let mut multiple = y;
-    for i in 0..128u32 {
-        if (x >> (127 - i)) % 2 == 1 {
-            sum ^= multiple;
-        }
-        multiple = next_multiple(multiple);
-    }
-    sum
-}
-
 // The multiple after this one: a place to the right.
-fn next_multiple(v: u128) -> u128
+pub fn next_multiple(v: u128) -> u128
     ensures { result ≡ next_multiple v }
 {
     if v % 2 == 1 {
@@ -46,3 +31,9 @@ fn next_multiple(v: u128) -> u128
         v >> 1
     }
 }
+
+/// The product of a sum is the sum of the products, in each factor.
+pub fn product_of_sums()
+    ensures first { (x y h : ℕ) → product (bit_xor x y) h ≡ bit_xor (product x h) (product y h) }
+    ensures second { (x h k : ℕ) → product x (bit_xor h k) ≡ bit_xor (product x h) (product x k) }
+{}

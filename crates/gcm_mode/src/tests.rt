@@ -1,7 +1,8 @@
-//! Published hashes, and sealing under a cipher that adds one byte to each, so that a text shows the
-//! counters and the tag.
+//! Published products and hashes, the product by tables beside the standard's, and sealing under a
+//! cipher that adds one byte to each, so that a text shows the counters and the tag.
 
 use super::*;
+use crate::product::{next_multiple, number_of};
 use dp_base::{BlockCipher, xor_into};
 use std::test::Fail;
 
@@ -39,6 +40,67 @@ const NONCE: [u8; 12] = *b"\xca\xfe\xba\xbe\xfa\xce\xdb\xad\xde\xca\xf8\x88";
 
 const AAD: &[u8] =
     b"\xfe\xed\xfa\xce\xde\xad\xbe\xef\xfe\xed\xfa\xce\xde\xad\xbe\xef\xab\xad\xda\xd2";
+
+// The product as the standard has it (SP 800-38D, 6.3, algorithm 1): bit by bit.
+fn product_by_bits(x: u128, y: u128) -> u128 {
+    let mut z = 0;
+    let mut v = y;
+    for i in 0..128u32 {
+        if (x >> (127 - i)) % 2 == 1 {
+            z ^= v;
+        }
+        v = next_multiple(v);
+    }
+    z
+}
+
+const H_2: &[u8; 16] = b"\x66\xe9\x4b\xd4\xef\x8a\x2c\x3b\x88\x4c\xfa\x59\xca\x34\x2b\x2e";
+
+// Test case 2 of "The Galois/Counter Mode of Operation (GCM)" by McGrew and Viega: the enciphered block
+// times H is X 1, and X 1 xor the lengths, times H, is the hash.
+#[test]
+fn published_products(rt: HostRuntime) {
+    let cases = [
+        (
+            0x0388_dace_60b6_a392_f328_c2b9_71b2_fe78u128,
+            0x5e2e_c746_9170_6288_2c85_b068_5353_deb7u128,
+        ),
+        (
+            0x5e2e_c746_9170_6288_2c85_b068_5353_de37,
+            0xf38c_bb1a_d692_23dc_c345_7ae5_b6b0_f885,
+        ),
+    ];
+    let key = GhashKey::new(H_2);
+    for (x, product) in cases {
+        assert_eq!(rt; key.product(x), product, "{x:x}");
+        assert_eq!(rt;
+            product_by_bits(x, number_of(H_2)),
+            product,
+            "{x:x} bit by bit"
+        );
+    }
+}
+
+// Every digit in every place, and products of products.
+#[test]
+fn products_by_tables(rt: HostRuntime) {
+    for h in [H_2, &[0; 16], &[255; 16], b"a block as a key"] {
+        let key = GhashKey::new(h);
+        let y = number_of(h);
+        for place in 0..32u32 {
+            for digit in 0..16u32 {
+                let x = u128::from(digit) << (4 * place);
+                assert_eq!(rt; key.product(x), product_by_bits(x, y), "{digit} at {place}");
+            }
+        }
+        let mut x = 1;
+        for turn in 0..64u32 {
+            let next = product_by_bits(x, y);
+            assert_eq!(rt; key.product(x), next, "turn {turn}");
+            x = next ^ u128::from(turn);
+        }
+    }
+}
 
 #[derive(Drop)]
 struct Hashed {

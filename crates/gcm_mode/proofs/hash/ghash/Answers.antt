@@ -17,4 +17,4 @@ returns c =
     let split : blocks (zero_filled aad ++ zero_filled text ++ lengths) ≡ (blocks (zero_filled aad) ++ blocks (zero_filled text)) ++ (lengths ∷ []) =
     blocks-append (zero_filled aad ++ zero_filled text) lengths (omega arith) ∙ rw (blocks-append (zero_filled aad) (zero_filled text) first) refl in
     rw (split, hash_blocks-append, hash_blocks-append)
-    (c.block_of.ensures ∙ ap block_of (c.product.ensures ∙ rw (c.number_of.ensures, c.length_block-lengths.ensures, c.absorbed-state.ensures, c.absorbed.ensures, c.number_of-key.ensures) refl))
+    (c.block_of.ensures ∙ ap block_of (c.product.ensures ∙ rw (c.number_of.ensures, c.length_block-lengths.ensures, c.absorbed-state.ensures, c.absorbed.ensures, c.new-key.ensures) refl))

@@ -1,0 +1,141 @@
+-- What one request does: to the pass, to the repository and to the draw.
+use Rattle.std.specs.Prelude.{◌≡◌, ◌≢◌, ◌⊎◌, ℕ, ◌<◌, min, Bool, true, false, List, [], length, Option, Some, None, Result, Ok, Err}
+use Rattle.dp_base.specs.declared.ticks.TheConstants.{LAST, MAX_TICKS}
+use Rattle.dp_base.specs.Clocks.{ShowsMoment}
+use Rattle.dp_base.specs.Draws.{DrawState}
+use Rattle.dp_base.specs.declared.want.Memory.{Memory}
+use Rattle.key_elements.specs.declared.element.Element.{Element}
+use Rattle.key_elements.specs.declared.element.Element.TheVariants as elements
+use Rattle.key_elements.specs.Lists.{Extends}
+use Rattle.key_ring.specs.Ring.{RingOf}
+use Rattle.repo_keeper.specs.Made.{key_of_draw, AreBadDates}
+use Rattle.repo_keeper.specs.Store.{Store}
+use Rattle.ring_world.specs.declared.step.Step.{Step}
+use Rattle.ring_world.specs.Flight.{Refusal}
+use Rattle.ring_world.specs.Path.{CallPath}
+use Rattle.ring_world.specs.Placing.{Asked, PlacePath}
+use Rattle.dp_node.specs.declared.error.NodeError.TheVariants as errors
+use Rattle.dp_node.specs.HostState.{HostState}
+use Rattle.dp_node.specs.Books.{Books, books, Does}
+use Rattle.dp_node.specs.Calls.{call}
+use Rattle.dp_node.specs.Gather.{refusal}
+use Rattle.dp_node.specs.Places.{asked}
+use Rattle.dp_wire.specs.declared.request.BadRequest.{BadRequest}
+use Rattle.dp_wire.specs.Frame.{frame}
+use Rattle.dp_wire.specs.Reading.{request_at}
+use Rattle.dp_wire.specs.Request.{Request, Ring, Roll, Revoke, RevokeBefore}
+use Rattle.dp_session.specs.declared.answer.Answered.{Answered}
+use Rattle.dp_session.specs.declared.trace.Entry.{Entry}
+use Rattle.dp_session.specs.declared.trace.Used.{Used}
+use Rattle.dp_session.specs.declared.trace.Used.TheVariants as used
+use Rattle.dp_session.specs.Replies.{reply_to}
+
+-- how many elements a request asks for
+abbrev pub need_of : Result Request BadRequest → ℕ
+need_of (Ok (Ring need)) = need
+need_of (Ok (Roll activation expiration code)) = 0
+need_of (Ok (Revoke id reason)) = 0
+need_of (Ok (RevokeBefore date reason)) = 0
+need_of (Err why) = 0
+
+-- the dates of the element that a request asks for are out of order or too late
+abbrev pub HasBadDates : Request → ℕ → Type 0
+HasBadDates (Ring need) now = ⊥
+HasBadDates (Roll activation expiration code) now = AreBadDates now activation expiration
+HasBadDates (Revoke id reason) now = ⊥
+HasBadDates (RevokeBefore date reason) now = MAX_TICKS < date
+
+-- what a request asks to be appended to the list that the pass has seen: a key that eighty bytes
+-- drawn make, or a revocation
+abbrev pub Asks : Request → ℕ → List Element → Option (List Element) → Asked → Type 0
+Asks (Ring need) now own told a = ⊥
+Asks (Roll activation expiration code) now own told a =
+    a ≡ asked own true (λ bytes. key_of_draw bytes now activation expiration code) told
+Asks (Revoke id reason) now own told a =
+    a ≡ asked own false (λ _. elements.RevokeKey (record { 0 = id }) now reason) told
+Asks (RevokeBefore date reason) now own told a =
+    a ≡ asked own false (λ _. elements.RevokeBefore date reason) told
+
+-- what is used where a path comes to a ring, or is refused; want of memory may come at any time
+abbrev pub IsByRing : Result RingOf Refusal → Used → Type 0
+IsByRing r (used.Ring front made_at) =
+    (ring : RingOf) × (r ≡ Ok ring) × (front ≡ length ring.list) × (made_at ≡ ring.made_at)
+IsByRing r (used.Placed place) = ⊥
+IsByRing r (used.Refused why) = (r ≡ Err (refusal why)) × (why ≢ errors.Memory)
+IsByRing r (used.BadRequest place) = ⊥
+IsByRing r used.NoMemory = Unit {0}
+
+-- what is used where a path comes to a place, or is refused
+abbrev pub IsByPlace : Result ℕ Refusal → Used → Type 0
+IsByPlace r (used.Ring front made_at) = ⊥
+IsByPlace r (used.Placed place) = r ≡ Ok place
+IsByPlace r (used.Refused why) = (r ≡ Err (refusal why)) × (why ≢ errors.Memory)
+IsByPlace r (used.BadRequest place) = ⊥
+IsByPlace r used.NoMemory = Unit {0}
+
+-- how a request is served that was read as q: it is none; no memory is found before anything is
+-- done; its dates are bad; it takes a lawful path to a ring; it takes a lawful path to a place
+pub data Serves (q : Result Request BadRequest) (now : ℕ) (u : Used) (drawn : List ℕ) (old new : Books) : Type 0 where
+  unread : (why : BadRequest) → q ≡ Err why → u ≡ used.BadRequest why.place → drawn ≡ [] → new ≡ old → Serves q now u drawn old new
+  unstarted : u ≡ used.NoMemory → drawn ≡ [] → new ≡ old → Serves q now u drawn old new
+  misdated : (p : Request) → q ≡ Ok p → HasBadDates p now → u ≡ used.Refused errors.BadDates → drawn ≡ [] → new ≡ old → Serves q now u drawn old new
+  by_ring : (need : ℕ) → q ≡ Ok (Ring need) → (r : Result RingOf Refusal) → (x : Does (CallPath (call (record { now = now; need = need }) old.host new.store.list) r new.host.own) old new) → x.course.drawn ≡ drawn → IsByRing r u → Serves q now u drawn old new
+  by_place : (p : Request) → q ≡ Ok p → (HasBadDates p now → ⊥) → (a : Asked) → Asks p now old.host.own new.store.list a → (r : Result ℕ Refusal) → (x : Does (PlacePath a r new.host.own) old new) → x.course.drawn ≡ drawn → IsByPlace r u → Serves q now u drawn old new
+
+-- the list that an entry brings to the trace: the one that the pass has seen afterwards
+abbrev pub IsListOf : Used → Option (List Element) → List Element → Type 0
+IsListOf (used.Ring front made_at) list own = list ≡ Some own
+IsListOf (used.Placed place) list own = list ≡ Some own
+IsListOf (used.Refused why) list own = list ≡ None
+IsListOf (used.BadRequest place) list own = list ≡ None
+IsListOf used.NoMemory list own = list ≡ None
+
+-- what a request was answered by, with the frame of a reply, unless memory wanted
+abbrev pub IsAnswer : Used → List ℕ → Option (List Element) → Result Answered Memory → Type 0
+IsAnswer u body list (Ok a) = (a.used ≡ u) × (a.reply.items ≡ frame body) × (a.list ≡ list)
+IsAnswer u body list (Err _) = Unit {0}
+
+-- a request was served, or no memory was found for its reply
+abbrev pub Served : Result Request BadRequest → ℕ → Result Answered Memory → List ℕ → Books → Books → Type 0
+Served q now (Ok a) drawn old new =
+    Serves q now a.used drawn old new
+    × (a.reply.items ≡ frame (reply_to q a.used drawn new.host.own))
+    × IsListOf a.used a.list new.host.own
+Served q now (Err _) drawn old new = Serves q now used.NoMemory drawn old new
+
+-- what a session's requests change
+pub record State : Type 0 where
+  pub host : HostState
+  pub store : Store
+  pub draws : DrawState
+  -- the moments to come, where the clock tells them
+  pub moments : Option (List ℕ)
+
+-- the bytes that a request drew are told, on whatever draw they came from
+abbrev pub telling : List ℕ → DrawState → DrawState
+telling bytes d = record { coming = d.coming; given = Some bytes; faults = d.faults; loan = None }
+
+abbrev pub state : HostState → Store → DrawState → Option (List ℕ) → State
+state host store draws moments =
+    record { host = host; store = store; draws = draws; moments = moments }
+
+-- what stands before a request, and after its steps and draws
+abbrev pub before : State → Books
+before s = books [] s.host s.store (telling [] s.draws)
+
+abbrev pub after : List Step → List ℕ → State → Books
+after steps drawn s = books steps s.host s.store (telling drawn s.draws)
+
+-- the number that is kept of a request: 0 where it wasn't kept
+abbrev pub IsNeed : ℕ → ℕ → Used → Type 0
+IsNeed need asked u = (need ≡ asked) ⊎ ((need ≡ 0) × (u ≡ used.NoMemory))
+
+-- an entry tells what the request of this body did: at the clock's next moment, or the last there is
+pub record IsEntry (body : List ℕ) (e : Entry) (old new : State) : Type 0 where
+  pub moment : ℕ
+  pub shown : ShowsMoment old.moments new.moments moment
+  pub now : e.now ≡ min moment LAST
+  pub need : IsNeed e.need (need_of (request_at body)) e.used
+  pub seen : e.seen ≡ length old.host.own
+  pub serves : Serves (request_at body) e.now e.used e.drawn (before old) (after e.steps e.drawn new)
+  pub grows : Extends new.host.own old.host.own

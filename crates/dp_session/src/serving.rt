@@ -1,0 +1,322 @@
+//! One frame of a session: it is read, served and answered.
+
+ghost use Rattle.std.specs.Prelude.{◌≡◌, ◌≢◌, ◌<◌, ◌≤◌, false, ℕ, List, [], length, vec_len, vec_capacity, None, IfOk, IfErr, IfSome, MatchResult, OnOk, OnErr};
+ghost use Rattle.dp_base.specs.declared.ticks.TheConstants.{LAST};
+ghost use Rattle.dp_base.specs.Counts.{one_more};
+ghost use Rattle.dp_base.specs.Readers.{seen};
+ghost use Rattle.dp_base.specs.Transfer.{Writes, WritesFront};
+ghost use Rattle.key_elements.specs.Lists.{Extends};
+ghost use Rattle.dp_node.specs.Books.{books};
+ghost use Rattle.dp_wire.specs.declared.frame.TheConstants.{MAX_BODY};
+ghost use Rattle.dp_wire.specs.Request.{request_of, IsRequest};
+ghost use Rattle.dp_session.specs.declared.status.Status.TheVariants.{ReadFault, WriteFault};
+ghost use Rattle.dp_session.specs.Frames.{IsKept, Reads};
+ghost use Rattle.dp_session.specs.Session.{EndsAt, OneMore, OneServed, outside};
+ghost use Rattle.dp_session.specs.Serving.{Served, telling, need_of, state};
+ghost use Rattle.dp_session.specs.Turns.{turn_of, reply_bytes, list_after, halt_of, IsTurn};
+
+use crate::answer::{Answered, answer};
+use crate::end::BadWhy;
+use crate::reading::{Body, Frame, Unread, read_frame};
+use crate::status::Status;
+use crate::trace::{Drawn, Entry, Used};
+use dp_base::{Clock, Draw, Failed, LAST, Memory, Sink, Source, Taped, write_all};
+use dp_node::{Host, HostView};
+use dp_wire::{BadRequest, RequestView, no_memory_frame};
+use key_elements::ElementList;
+use repo_keeper::Repo;
+use ring_world::StepList;
+use std::alloc::Global;
+
+/// Why a session ends at its next frame, and what is wrong with that.
+#[derive(Clone, Copy, Debug, PartialEq, Eq)]
+pub(crate) struct Halt {
+    pub status: Status,
+    pub bad: Option<BadWhy>,
+}
+
+// The end with a status that names nothing bad.
+fn ended(status: Status) -> Halt
+    ensures { result ≡ record { status = status; bad = None } }
+{
+    Halt { status, bad: None }
+}
+
+/// What one request came to: its entry, the frame of its reply, where memory was found for one, and
+/// the list that it brings to the trace.
+#[derive(Debug, Drop)]
+pub(crate) struct Turn {
+    pub entry: Entry,
+    pub reply: Option<Vec<u8>>,
+    pub list: Option<ElementList>,
+}
+
+// Serves a request over a draw that tells what it gives, and stands on the same loan afterwards.
+fn answer_taped<'t, W, H: Host<W>, R: Repo<W>, D: Draw>(
+    w: &mut W,
+    alloc: Global,
+    host: &mut H,
+    repo: &mut R,
+    draw: &mut Taped<'t, D>,
+    now: u64,
+    request: Result<RequestView<'_>, BadRequest>,
+    steps: &mut StepList,
+) -> Result<Answered, Memory>
+    requires moment { now ≤ LAST }
+    requires request { IfOk request (λ view. IsRequest (request_of view)) }
+    requires free { (H.state host.old).held ≡ false }
+    requires room { steps.old ≡ [] }
+    ensures loan { draw.new.draw.ghost_name ≡ draw.old.draw.ghost_name }
+    ensures served { (drawn : List ℕ) × Served (seen request_of request.entry) now result drawn
+        (books [] (H.state host.old) (R.store repo.old) (⟦<Taped<'t, D> as Draw>⟧.draws draw.old))
+        (books steps.new (H.state host.new) (R.store repo.new)
+        (⟦<Taped<'t, D> as Draw>⟧.draws draw.new)) }
+    ensures free { (H.state host.new).held ≡ false }
+    ensures grows { Extends (H.state host.new).own (H.state host.old).own }
+{
+    answer(w, alloc, host, repo, draw, now, request, steps)
+}
+
+// Serves a request, and tells the bytes that it drew.
+fn answer_told<W, H: Host<W>, R: Repo<W>, D: Draw>(
+    w: &mut W,
+    alloc: Global,
+    host: &mut H,
+    repo: &mut R,
+    draw: &mut D,
+    now: u64,
+    request: Result<RequestView<'_>, BadRequest>,
+    steps: &mut StepList,
+) -> (Result<Answered, Memory>, Drawn)
+    requires moment { now ≤ LAST }
+    requires request { IfOk request (λ view. IsRequest (request_of view)) }
+    requires free { (H.state host.old).held ≡ false }
+    requires room { steps.old ≡ [] }
+    ensures served { Served (seen request_of request.entry) now result.0 result.1
+        (books [] (H.state host.old) (R.store repo.old) (telling [] (D.draws draw.old)))
+        (books steps.new (H.state host.new) (R.store repo.new)
+        (telling result.1 (D.draws draw.new))) }
+    ensures free { (H.state host.new).held ≡ false }
+    ensures grows { Extends (H.state host.new).own (H.state host.old).own }
+{
+    let mut taped = Taped::new(draw);
+    let answered = answer_taped(w, alloc, host, repo, &mut taped, now, request, steps);
+    let drawn = Drawn::of(taped.bytes());
+    (answered, drawn)
+}
+
+// How many elements a request asks for.
+fn need_of(request: Result<RequestView<'_>, BadRequest>) -> u64
+    ensures { result ≡ need_of (seen request_of request.entry) }
+{
+    match request {
+        Ok(RequestView::Ring { need }) => need,
+        Ok(
+            RequestView::Roll { .. }
+            | RequestView::Revoke { .. }
+            | RequestView::RevokeBefore { .. },
+        )
+        | Err(_) => 0,
+    }
+}
+
+
+// The turn of a request that was answered, or found no memory.
+fn turn_of(
+    answered: Result<Answered, Memory>,
+    now: u64,
+    need: u64,
+    seen: u64,
+    steps: StepList,
+    drawn: Drawn,
+) -> Turn
+    ensures { result ≡ turn_of answered now need seen steps drawn }
+{
+    let (used, reply, list) = match answered {
+        Ok(Answered { used, reply, list }) => (used, Some(reply), list),
+        Err(_) => (Used::NoMemory, None, None),
+    };
+    let entry = Entry {
+        now,
+        need,
+        seen,
+        used,
+        steps,
+        drawn,
+    };
+    Turn { entry, reply, list }
+}
+
+// Serves the request of a body at the moment, in ticks; a body that isn't kept finds no memory.
+fn serve_body<W, H: Host<W>, R: Repo<W>, D: Draw>(
+    w: &mut W,
+    alloc: Global,
+    host: &mut H,
+    repo: &mut R,
+    draw: &mut D,
+    now: u64,
+    body: &Option<Vec<u8>>,
+    steps: StepList,
+) -> Turn
+    requires moment { now ≤ LAST }
+    requires body { IfSome body.now (λ bytes. length bytes.items ≤ MAX_BODY) }
+    requires free { (H.state host.old).held ≡ false }
+    requires room { steps ≡ [] }
+    ensures turn { (bytes : List ℕ) → IsKept body.now bytes → IsTurn bytes now result
+        (state (H.state host.old) (R.store repo.old) (D.draws draw.old) None)
+        (state (H.state host.new) (R.store repo.new) (D.draws draw.new) None) }
+    ensures free { (H.state host.new).held ≡ false }
+{
+    let seen = host.own().len();
+    match body {
+        Some(body) => {
+            let request = RequestView::read(body.as_slice());
+            let need = need_of(request);
+            let mut steps = steps;
+            let (answered, drawn) =
+                answer_told(w, alloc, host, repo, draw, now, request, &mut steps);
+            turn_of(answered, now, need, seen, steps, drawn)
+        }
+        None => turn_of(Err(Memory), now, 0, seen, steps, Drawn::none()),
+    }
+}
+
+// Writes the frame of a reply, or the one that no memory was found.
+fn put_frame<O: Sink>(output: &mut O, reply: &Option<Vec<u8>>) -> Result<(), Failed>
+    ensures ok { OnOk result (Writes (O.written output.old) (O.written output.new)
+        (reply_bytes reply.now)) }
+    ensures err { OnErr result (WritesFront (O.written output.old) (O.written output.new)
+        (reply_bytes reply.now)) }
+    ensures no_fault { OnOk result (O.faults output.new ≡ O.faults output.old) }
+    ensures fault { OnErr result (O.faults output.new ≡ one_more (O.faults output.old)) }
+{
+    match reply {
+        Some(bytes) => write_all(output, bytes.as_slice()),
+        None => write_all(output, &no_memory_frame()),
+    }
+}
+
+// Makes the list the longer one, where there is one.
+fn grow(list: &mut ElementList, longer: Option<ElementList>)
+    ensures { list.new ≡ list_after longer list.old }
+{
+    if let Some(longer) = longer {
+        *list = longer;
+    }
+}
+
+// Serves the request of a body, keeps its entry and its list, and writes its reply.
+fn serve_frame<W, H: Host<W>, R: Repo<W>, D: Draw, C: Clock, O: Sink>(
+    w: &mut W,
+    alloc: Global,
+    host: &mut H,
+    repo: &mut R,
+    draw: &mut D,
+    clock: &mut C,
+    output: &mut O,
+    body: &Body,
+    steps: StepList,
+    entries: &mut Vec<Entry>,
+    list: &mut ElementList,
+) -> Result<(), Failed>
+    requires free { (H.state host.old).held ≡ false }
+    requires body { IfSome body.now.kept (λ bytes. length bytes.items ≤ MAX_BODY) }
+    requires steps { steps ≡ [] }
+    requires room { vec_len entries.old < vec_capacity entries.old }
+    ensures ok { OnOk result ((bytes : List ℕ) → Reads body.now bytes → OneServed Writes bytes
+        (outside None (O.written output.old) (state (H.state host.old) (R.store repo.old)
+        (D.draws draw.old) (C.moments clock.old)) entries.old.items list.old)
+        (outside None (O.written output.new) (state (H.state host.new) (R.store repo.new)
+        (D.draws draw.new) (C.moments clock.new)) entries.new.items list.new)) }
+    ensures err { OnErr result ((bytes : List ℕ) → Reads body.now bytes → OneServed WritesFront bytes
+        (outside None (O.written output.old) (state (H.state host.old) (R.store repo.old)
+        (D.draws draw.old) (C.moments clock.old)) entries.old.items list.old)
+        (outside None (O.written output.new) (state (H.state host.new) (R.store repo.new)
+        (D.draws draw.new) (C.moments clock.new)) entries.new.items list.new)) }
+    ensures free { (H.state host.new).held ≡ false }
+    ensures no_fault { OnOk result (O.faults output.new ≡ O.faults output.old) }
+    ensures fault { OnErr result (O.faults output.new ≡ one_more (O.faults output.old)) }
+{
+    let now = clock.now().min(LAST);
+    let turn = serve_body(w, alloc, host, repo, draw, now, &body.kept, steps);
+    let Turn {
+        entry,
+        reply,
+        list: longer,
+    } = turn;
+    let _ = entries.push(entry);
+    grow(list, longer);
+    put_frame(output, &reply)
+}
+
+// Room for one more entry, and for its steps.
+fn reserve(alloc: Global, entries: &mut Vec<Entry>) -> Result<StepList, Memory>
+    ensures entries { entries.new.items ≡ entries.old.items }
+    ensures room { OnOk result (vec_len entries.new < vec_capacity entries.new) }
+    ensures steps { IfOk result (λ steps. steps ≡ []) }
+{
+    entries.try_reserve(1)?;
+    StepList::with_room(alloc)
+}
+
+// The end of a session where no frame was read.
+fn unread(why: Unread) -> Halt
+    ensures { result ≡ halt_of why }
+{
+    match why {
+        Unread::Bad(bad) => Halt {
+            status: Status::BadInput,
+            bad: Some(bad),
+        },
+        Unread::Failed => ended(Status::ReadFault),
+    }
+}
+
+/// Reads one frame, serves its request, and writes its reply. Answers how many bytes the frame had.
+pub(crate) fn serve_one<W, H: Host<W>, R: Repo<W>, D: Draw, C: Clock, I: Source, O: Sink>(
+    w: &mut W,
+    alloc: Global,
+    host: &mut H,
+    repo: &mut R,
+    draw: &mut D,
+    clock: &mut C,
+    input: &mut I,
+    output: &mut O,
+    entries: &mut Vec<Entry>,
+    list: &mut ElementList,
+) -> Result<u64, Halt>
+    requires free { (H.state host.old).held ≡ false }
+    ensures ok { IfOk result (OneMore Writes
+        (outside (I.left input.old) (O.written output.old) (state (H.state host.old)
+        (R.store repo.old) (D.draws draw.old) (C.moments clock.old)) entries.old.items list.old)
+        (outside (I.left input.new) (O.written output.new) (state (H.state host.new)
+        (R.store repo.new) (D.draws draw.new) (C.moments clock.new)) entries.new.items list.new)) }
+    ensures err { IfErr result (λ halt. EndsAt halt.status halt.bad
+        (outside (I.left input.old) (O.written output.old) (state (H.state host.old)
+        (R.store repo.old) (D.draws draw.old) (C.moments clock.old)) entries.old.items list.old)
+        (outside (I.left input.new) (O.written output.new) (state (H.state host.new)
+        (R.store repo.new) (D.draws draw.new) (C.moments clock.new)) entries.new.items list.new)) }
+    ensures free { (H.state host.new).held ≡ false }
+    ensures read_fault { IfErr result (λ halt. halt.status ≡ ReadFault
+        → I.faults input.new ≡ one_more (I.faults input.old)) }
+    ensures no_read_fault { MatchResult result (λ _. I.faults input.new ≡ I.faults input.old)
+        (λ halt. halt.status ≢ ReadFault → I.faults input.new ≡ I.faults input.old) }
+    ensures write_fault { IfErr result (λ halt. halt.status ≡ WriteFault
+        → O.faults output.new ≡ one_more (O.faults output.old)) }
+    ensures no_write_fault { MatchResult result (λ _. O.faults output.new ≡ O.faults output.old)
+        (λ halt. halt.status ≢ WriteFault → O.faults output.new ≡ O.faults output.old) }
+{
+    let steps = match reserve(alloc, entries) {
+        Ok(steps) => steps,
+        Err(_) => return Err(ended(Status::NoMemory)),
+    };
+    let body = match read_frame(alloc, input) {
+        Ok(Frame::Whole(body)) => body,
+        Ok(Frame::End) => return Err(ended(Status::Done)),
+        Err(why) => return Err(unread(why)),
+    };
+    match serve_frame(w, alloc, host, repo, draw, clock, output, &body, steps, entries, list) {
+        Ok(()) => Ok(4 + u64::from(body.len)),
+        Err(_) => Err(ended(Status::WriteFault)),
+    }
+}

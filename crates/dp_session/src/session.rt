@@ -1,0 +1,124 @@
+//! A session of framed requests.
+
+ghost use Rattle.std.specs.Prelude.{◌≡◌, ◌≢◌, ◌≤◌, ◌↔◌, false, None, [], length, IsSome};
+ghost use Rattle.dp_base.specs.Counts.{one_more};
+ghost use Rattle.dp_session.specs.declared.status.Status.TheVariants.{BadInput, ReadFault, WriteFault, Spent};
+ghost use Rattle.dp_session.specs.Serving.{state};
+ghost use Rattle.dp_session.specs.Session.{EndsInput, IsSpentEnd, IsSession, bad_at, outside};
+
+use crate::end::{BadPlace, SessionEnd};
+use crate::serving::{Halt, serve_one};
+use crate::status::Status;
+use crate::trace::{Entries, Trace};
+use dp_base::{Clock, Draw, Sink, Source, read_full};
+use dp_node::{Host, HostView};
+use key_elements::ElementList;
+use repo_keeper::Repo;
+use std::alloc::Global;
+
+/// The most requests of a session.
+pub const MAX_REQUESTS: u64 = 16_384;
+
+const _: () = prove!(MAX_REQUESTS == 16_384);
+
+// Where a session ends at a frame that begins at the place.
+fn bad_place(halt: Halt, place: u64) -> Option<BadPlace>
+    ensures { result ≡ bad_at halt.bad place }
+{
+    match halt.bad {
+        Some(why) => Some(BadPlace { place, why }),
+        None => None,
+    }
+}
+
+// How a session ends that served as many requests as it may.
+fn end_of_spent<I: Source>(input: &mut I) -> Status
+    ensures ends { EndsInput result None 0 (I.left input.old) (I.left input.new) }
+    ensures status { IsSpentEnd result }
+    ensures read_fault { result ≡ ReadFault → I.faults input.new ≡ one_more (I.faults input.old) }
+    ensures no_read_fault { result ≢ ReadFault → I.faults input.new ≡ I.faults input.old }
+{
+    match read_full(input, &mut [0]) {
+        Ok(0) => Status::Done,
+        Ok(_) => Status::Spent,
+        Err(_) => Status::ReadFault,
+    }
+}
+
+/// Serves the requests of the input, one after the other: each reply is handed to the output before
+/// the next frame is read.
+///
+/// What source and sink hold is told of those that tell their bytes, as the ones in memory do.
+pub fn serve_session<W, H: Host<W>, R: Repo<W>, D: Draw, C: Clock, I: Source, O: Sink>(
+    w: &mut W,
+    alloc: Global,
+    host: &mut H,
+    repo: &mut R,
+    draw: &mut D,
+    clock: &mut C,
+    input: &mut I,
+    output: &mut O,
+) -> SessionEnd
+    requires free { (H.state host.old).held ≡ false }
+
+    // The requests are the frames of the bytes read, in order; each was served by a lawful path from
+    // what the one before left, and has its entry; the bytes written are the replies to them.
+    ensures session { IsSession result.status result.bad
+        (outside (I.left input.old) (O.written output.old) (state (H.state host.old)
+        (R.store repo.old) (D.draws draw.old) (C.moments clock.old)) [] [])
+        (outside (I.left input.new) (O.written output.new) (state (H.state host.new)
+        (R.store repo.new) (D.draws draw.new) (C.moments clock.new)) result.trace.entries
+        result.trace.list) }
+    ensures few { length result.trace.entries ≤ MAX_REQUESTS }
+    ensures spent { result.status ≡ Spent → length result.trace.entries ≡ MAX_REQUESTS }
+    ensures bad { IsSome result.bad ↔ (result.status ≡ BadInput) }
+    ensures free { (H.state host.new).held ≡ false }
+
+    // One fault is counted where a read or a write failed, and none else.
+    ensures read_fault { result.status ≡ ReadFault
+        → I.faults input.new ≡ one_more (I.faults input.old) }
+    ensures no_read_fault { result.status ≢ ReadFault
+        → I.faults input.new ≡ I.faults input.old }
+    ensures write_fault { result.status ≡ WriteFault
+        → O.faults output.new ≡ one_more (O.faults output.old) }
+    ensures no_write_fault { result.status ≢ WriteFault
+        → O.faults output.new ≡ O.faults output.old }
+{
+    let mut entries = Vec::new(alloc);
+    let mut list = ElementList::empty();
+    let mut place = 0;
+    'requests: for _ in 0..MAX_REQUESTS {
+        match serve_one(
+            w,
+            alloc,
+            host,
+            repo,
+            draw,
+            clock,
+            input,
+            output,
+            &mut entries,
+            &mut list,
+        ) {
+            Ok(len) => place += len,
+            Err(halt) => {
+                return SessionEnd {
+                    status: halt.status,
+                    bad: bad_place(halt, place),
+                    trace: Trace {
+                        list,
+                        entries: Entries::of(entries),
+                    },
+                };
+            }
+        }
+    }
+    SessionEnd {
+        status: end_of_spent(input),
+        bad: None,
+        trace: Trace {
+            list,
+            entries: Entries::of(entries),
+        },
+    }
+}

@@ -84,7 +84,7 @@ class Reader:
 
 
 def number_of(name, text, most):
-    if not re.fullmatch("0|[1-9][0-9]{0,18}", text) or int(text) > most:
+    if not re.fullmatch("0|[1-9][0-9]{0,19}", text) or int(text) > most:
         raise Refused(f"{name} is {text}, and not a decimal number of at most {most}")
     return int(text)
 

@@ -15,7 +15,8 @@ sys.path.insert(0, os.path.join(TOP, "samples"))
 from listing import DAY, LAST, PROPAGATION, SKEW, listing
 from records import MAX_RECORDS, MAX_TICKS, Key, MassRevocation, Revocation
 
-# The program is started by a line of sh, whose "$0" and "$@" are the program and its words.
+# The program is started by a line of sh, whose "$0" and "$@" are the program and its words. The
+# output is a text, or tells what is wrong with given bytes, a line each.
 Case = namedtuple("Case", "name words input status output error shell")
 
 PLAIN = 'exec "$0" "$@"'
@@ -477,8 +478,6 @@ def words():
             ["help"],
             ["--version"],
             ["-V"],
-            ["pipe"],
-            ["pipe", "--no-auto"],
             ["drill", "7", "3", "4", "300"],
             ["serve", "8080", "ring.db", "1", "1"],
             [b"\xff"],

@@ -1,9 +1,10 @@
 //! `pipe`: requests are served over one stream, by a node of one thread.
 
-ghost use Rattle.std.specs.Prelude.{◌≡◌, ◌≢◌, ◌≤◌, ◌↔◌, length, IsSome};
+ghost use Rattle.std.specs.Prelude.{◌≡◌, ◌≢◌, ◌≤◌, ◌↔◌, length, IfSome, IsSome};
 ghost use Rattle.dp_base.specs.Counts.{one_more};
 ghost use Rattle.dp_session.specs.declared.session.TheConstants.{MAX_REQUESTS};
 ghost use Rattle.dp_session.specs.declared.status.Status.TheVariants.{BadWords, BadInput, ReadFault, WriteFault, StoreFault, DrawFault, Spent};
+ghost use Rattle.dp_session.specs.Frames.{AreWhole};
 ghost use Rattle.dp_server.specs.Pipe.{AreStandard, Pipes, around, status_of};
 
 use crate::outcome::Outcome;
@@ -55,6 +56,8 @@ pub(crate) fn pipe<R: Repo<()>, D: Draw, C: Clock, I: Source, O: Sink>(
     ensures few { length result.trace.entries ≤ MAX_REQUESTS }
     ensures spent { result.status ≡ Spent → length result.trace.entries ≡ MAX_REQUESTS }
     ensures bad { IsSome result.bad ↔ (result.status ≡ BadInput) }
+    ensures whole { IfSome (I.left input.old) (λ bytes. AreWhole MAX_REQUESTS bytes
+        → (result.status ≢ BadInput) × (result.status ≢ Spent)) }
     ensures read_fault { result.status ≡ ReadFault
         → I.faults input.new ≡ one_more (I.faults input.old) }
     ensures no_read_fault { result.status ≢ ReadFault

@@ -5,6 +5,7 @@ ghost use Rattle.dp_base.specs.Counts.{one_more};
 ghost use Rattle.dp_base.specs.Transfer.{TakesAtMost, Writes, WritesFront};
 ghost use Rattle.dp_session.specs.declared.session.TheConstants.{MAX_REQUESTS};
 ghost use Rattle.dp_session.specs.declared.status.Status.TheVariants.{Done, BadWords, BadInput, ReadFault, WriteFault, StoreFault, DrawFault, Spent};
+ghost use Rattle.dp_session.specs.Frames.{AreWhole};
 ghost use Rattle.dp_server.specs.declared.transfer.TheConstants.{MAX_INPUT};
 ghost use Rattle.dp_server.specs.Words.{IsShow, IsPipe};
 ghost use Rattle.dp_server.specs.Commands.{IsLawful};
@@ -78,6 +79,12 @@ pub fn run<R: Repo<()>, D: Draw, C: Clock, I: Source, O: Sink>(
         (C.moments clock.old))
         (around (I.left input.new) (O.written output.new) (R.store repo.new) (D.draws draw.new)
         (C.moments clock.new)) }
+
+    // pipe: whole frames, not too many, are never refused; so where nothing failed, all was read and
+    // written, unless memory wanted.
+    ensures whole { (auto : Bool) → IsPipe (map string_bytes words.now) auto
+        → IfSome (I.left input.old) (λ bytes. AreWhole MAX_REQUESTS bytes
+        → (result.status ≢ BadInput) × (result.status ≢ Spent)) }
     ensures few { length result.trace.entries ≤ MAX_REQUESTS }
     ensures spent { result.status ≡ Spent → length result.trace.entries ≡ MAX_REQUESTS }
 

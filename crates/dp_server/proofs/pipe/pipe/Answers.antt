@@ -32,3 +32,6 @@ returns-in-Err-clause-store_fault g c = λ e.
 pub returns-in-Err-clause-draw_fault : goal.returns-in-Err-clause-draw_fault
 returns-in-Err-clause-draw_fault g c = λ e.
     draw_fault c.standard.result _ _ _ _ c.min-now.result c.in-Err.why c.in-Err.ensures.opened (sym (c.of.ensures.status ∙ c.status_of.ensures.value) ∙ e)
+
+pub returns-in-Ok-clause-whole : goal.returns-in-Ok-clause-whole
+returns-in-Ok-clause-whole g c = rw c.of_session.ensures.status c.serve_session-end.ensures.whole

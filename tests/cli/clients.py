@@ -1,0 +1,341 @@
+"""Clients that speak with the program while it runs, and the scripts of the samples with it. Each
+tells what went wrong, a line each."""
+
+import os
+import re
+import select
+import subprocess
+import sys
+import tempfile
+import uuid
+
+from cases import TOP, small_id
+from listing import DAY
+from session import play
+from sessions import Session, clock, frame, revoke, revoke_before, ring, roll
+
+# How long a reply may take, and how long it is watched that none comes.
+SECONDS = 20
+QUIET = 0.2
+
+
+class NoReply(Exception):
+    """A reply that didn't come."""
+
+
+class Client:
+    """A program that is asked one request at a time."""
+
+    def __init__(self, program, *words):
+        self.process = subprocess.Popen(
+            [program, "pipe", *words],
+            stdin=subprocess.PIPE,
+            stdout=subprocess.PIPE,
+            stderr=subprocess.PIPE,
+            bufsize=0,
+        )
+
+    def send(self, data):
+        self.process.stdin.write(data)
+
+    def is_quiet(self):
+        """Whether nothing comes for a while."""
+        return not select.select([self.process.stdout], [], [], QUIET)[0]
+
+    def take(self, count):
+        data = b""
+        while len(data) < count:
+            if not select.select([self.process.stdout], [], [], SECONDS)[0]:
+                raise NoReply(f"no reply came in {SECONDS} seconds")
+            piece = os.read(self.process.stdout.fileno(), count - len(data))
+            if not piece:
+                raise NoReply("the output ended")
+            data += piece
+        return data
+
+    def reply(self):
+        return self.take(int.from_bytes(self.take(4), "big"))
+
+    def ask(self, body):
+        self.send(frame(body))
+        return self.reply()
+
+    def end(self):
+        """The status, and what is left of the output, after the input's end."""
+        self.process.stdin.close()
+        try:
+            self.process.wait(SECONDS)
+        except subprocess.TimeoutExpired:
+            raise NoReply("the program doesn't end with its input")
+        return self.process.returncode, self.process.stdout.read()
+
+    def __enter__(self):
+        return self
+
+    def __exit__(self, *_):
+        self.process.kill()
+        self.process.wait()
+        for stream in (self.process.stdin, self.process.stdout, self.process.stderr):
+            stream.close()
+
+
+def served(client, auto, requests):
+    """What is wrong where each request of a function of the last rolled id is asked in turn."""
+    session = Session(auto)
+    made = None
+    for at, request in enumerate(requests):
+        body = request(made)
+        reply = client.ask(body)
+        fault = session.fault_of(body, reply)
+        if fault:
+            return [f"reply {at} is wrong: {fault}"]
+        if body[0] == 2 and reply[0] == 0:
+            made = uuid.UUID(bytes_le=reply[9:])
+    left = client.end()
+    return [] if left == (0, b"") else [f"it ends with {left}"]
+
+
+def life_of_a_key(program, *words):
+    """A client that waits for each reply makes a key, revokes it by the id that was told, and sees
+    it revoked in every ring from then on."""
+    now = clock()
+    requests = [
+        lambda made: ring(),
+        lambda made: roll(now, now + 90 * DAY),
+        lambda made: ring(1),
+        lambda made: revoke(made, b"lost laptop"),
+        lambda made: ring(2),
+        lambda made: roll(now + DAY, now + 91 * DAY, 9),
+        lambda made: revoke_before(5, b"none"),
+        lambda made: ring(),
+        lambda made: revoke(made),
+        lambda made: revoke_before(now + 2 * DAY),
+        lambda made: ring(3),
+    ]
+    with Client(program, *words) as client:
+        return served(client, not words, requests)
+
+
+def pieces(program):
+    """A frame is served when it is there in full, and not before."""
+    faults = []
+    with Client(program, "--no-auto") as client:
+        session = Session(False)
+        for count in (1, 3, 4, 5, 12):
+            whole = frame(ring())
+            client.send(whole[:count])
+            if not client.is_quiet():
+                faults.append(f"a reply comes after {count} bytes")
+            client.send(whole[count:])
+            fault = session.fault_of(ring(), client.reply())
+            faults += [fault] if fault else []
+        if not client.is_quiet():
+            faults.append("a second reply comes")
+        left = client.end()
+        return faults + ([] if left == (0, b"") else [f"it ends with {left}"])
+
+
+def bad_frame(program):
+    """The reply before a bad frame comes at once, and the program ends without the input's end."""
+    with Client(program, "--no-auto") as client:
+        client.send(frame(revoke(small_id("a"))))
+        reply = client.reply()
+        client.send(bytes(4))
+        status = client.process.wait(SECONDS)
+        error = client.process.stderr.read()
+    faults = [] if reply == b"\0" + bytes(7) + b"\1" else [f"the reply is {reply.hex()}"]
+    if (status, error) != (3, b"dp_server: bad input at byte 22\n"):
+        faults.append(f"it ends with {status} and {error}")
+    return faults
+
+
+# No random bytes are to be had here, and nothing else in the system changes.
+NO_BYTES = 'mount --bind /dev/null /dev/urandom && exec "$0" "$@"'
+
+
+def no_random_bytes(program):
+    """Without random bytes for the first ring the session ends before it reads. Skipped where this
+    system doesn't let a process have a view of its own of /dev/urandom."""
+    alone = ["unshare", "--map-root-user", "--mount", "sh", "-c", NO_BYTES]
+    try:
+        if subprocess.run([*alone, "true"], stderr=subprocess.DEVNULL).returncode != 0:
+            return []
+    except OSError:
+        return []
+    faults = []
+    for words in (["pipe"], ["pipe", "--no-auto"]):
+        told = subprocess.run(
+            [*alone, program, *words],
+            input=frame(ring()),
+            stdout=subprocess.PIPE,
+            stderr=subprocess.PIPE,
+            timeout=SECONDS,
+        )
+        error = b"dp_server: drawing random bytes failed\n"
+        if (told.returncode, told.stdout, told.stderr) != (7, b"", error):
+            faults.append(f"{words} gives {told}")
+    return faults
+
+
+# What is printed of the sample: T stands for a moment, I for the key's id.
+SAMPLE = """\
+> ring need 0
+ring: OK front 0
+  ring 0 elements at T
+  mass none
+  default none
+  renew yes
+> roll activation now expiration now+90 alg 3
+roll: OK front 1 id I
+> ring need 1
+ring: OK front 1
+  ring 1 elements at T
+  mass none
+  key I created T activates T expires T alg 3 active
+  default I by preference
+  renew no
+> revoke made reason "lost laptop"
+revoke: OK front 2
+> ring need 2
+ring: OK front 2
+  ring 2 elements at T
+  mass none
+  key I created T activates T expires T alg 3 revoked
+  default none
+  renew yes
+"""
+
+
+def sample_session(program):
+    """samples/session.txt, played by samples/session.py."""
+    said = []
+    path = os.path.join(TOP, "samples", "session.txt")
+    with open(path, "rb") as lines:
+        status = play([program, "pipe", "--no-auto"], lines, said.append)
+    text = "".join(f"{line}\n" for line in said)
+    ids = set(re.findall("[0-9a-f]{8}(?:-[0-9a-f]{4}){3}-[0-9a-f]{12}", text))
+    for key_id in ids:
+        text = text.replace(key_id, "I")
+    text = re.sub(r"\b[0-9]{18}\b", "T", text)
+    faults = [] if status == 0 else [f"the status is {status}"]
+    faults += [] if len(ids) == 1 else [f"the ids are {ids}"]
+    return faults + ([] if text == SAMPLE else [f"what is printed is {text!r}"])
+
+
+REQUESTS = """\
+# every kind, and a few refusals
+ring need 0
+roll activation 638000000000000000 expiration 638000000000000000 alg 3
+
+revoke 00000000-0000-4000-8000-00000000000b reason "lost laptop" # for good
+revoke-before 638043200000000000 reason "a \\"leak\\""
+ring need 9
+roll activation 1 expiration 2 alg 10
+"""
+# Their frames, and the replies to them but for the moment T.
+FRAMES = bytes.fromhex(
+    "00 00 00 09 01 00 00 00 00 00 00 00 00"
+    "00 00 00 12 02 08 DA A1 9E A6 B3 00 00 08 DA A1 9E A6 B3 00 00 03"
+    "00 00 00 1D 03 00 00 00 00 00 00 00 40 80 00 00 00 00 00 00 0B"
+    "0B 6C 6F 73 74 20 6C 61 70 74 6F 70"
+    "00 00 00 12 04 08 DA C8 E8 EF 5A 80 00 08 61 20 22 6C 65 61 6B 22"
+    "00 00 00 09 01 00 00 00 00 00 00 00 09"
+    "00 00 00 12 02 00 00 00 00 00 00 00 01 00 00 00 00 00 00 00 02 0A"
+)
+LISTING = "  ring 0 elements at T\n  mass none\n  default none\n  renew yes\n"
+REPLIES = f"""\
+ring: OK front 0
+{LISTING}roll: BadDates
+revoke: OK front 1
+revoke-before: OK front 2
+ring: Behind have 2 need 9
+roll: BadRequest place 17
+"""
+LAST_REPLY = bytes.fromhex("00 00 00 05 01 00 00 00 11")
+# Without the text of the requests.
+BARE_REPLIES = f"""\
+OK front 0
+{LISTING}BadDates
+OK front 1
+OK front 2
+Behind have 2 need 9
+BadRequest place 17
+"""
+
+
+def script(word, given, *more):
+    """What samples/requests.py writes."""
+    words = [sys.executable, os.path.join(TOP, "samples", "requests.py"), word, *more]
+    return subprocess.run(words, input=given, stdout=subprocess.PIPE, stderr=subprocess.PIPE)
+
+
+def requests_and_replies(program):
+    """A text of requests through samples/requests.py, the program, and back."""
+    encoded = script("encode", REQUESTS.encode())
+    command = [program, "pipe", "--no-auto"]
+    replies = subprocess.run(command, input=FRAMES, stdout=subprocess.PIPE).stdout
+    with tempfile.NamedTemporaryFile(suffix=".txt") as mine:
+        mine.write(REQUESTS.encode())
+        mine.flush()
+        decoded = script("decode", replies, mine.name)
+        fewer = script("decode", replies[: -len(LAST_REPLY)], mine.name)
+        more = script("decode", replies + LAST_REPLY, mine.name)
+    bare = script("decode", replies)
+    cut = script("decode", replies[:-1])
+    faults = []
+    if (encoded.returncode, encoded.stdout) != (0, FRAMES):
+        faults.append(f"encode gives {encoded}")
+    for told, wanted in [(decoded, REPLIES), (bare, BARE_REPLIES)]:
+        text = re.sub(r"\b[0-9]{18}\b", "T", told.stdout.decode())
+        if (told.returncode, text) != (0, wanted):
+            faults.append(f"decode gives {told}")
+    for name, told in [("fewer", fewer), ("more", more), ("cut", cut)]:
+        if told.returncode != 1 or not told.stderr:
+            faults.append(f"decode of {name} replies gives {told}")
+    return faults
+
+
+def bad_texts(_):
+    """Texts that are no requests are refused with the number of their line."""
+    faults = []
+    for line in [
+        "ring",
+        "ring 0",
+        "ring need",
+        "ring need -1",
+        "ring need 01",
+        "ring need 18446744073709551616",
+        "ring need 0 0",
+        "roll activation 1 expiration 2",
+        "roll expiration 2 activation 1 alg 3",
+        "roll activation 1 expiration 2 alg 256",
+        "roll activation now+ expiration now alg 3",
+        "revoke made reason \"\"",
+        "revoke 1 reason \"\"",
+        "revoke 00000000-0000-4000-8000-00000000000b",
+        "revoke-before 5 reason leak",
+        "revoke-before 5 reason \"leak",
+        "show 1000",
+    ]:
+        told = script("encode", f"# a text\nring need 0\n{line}\n".encode())
+        is_first = told.stdout == frame(ring())
+        if told.returncode != 1 or not is_first or not told.stderr.startswith(PREFIX):
+            faults.append(f"encode of {line} gives {told}")
+    return faults
+
+
+PREFIX = b"requests.py: line 3: "
+
+
+def all_clients():
+    """Each client with its name."""
+    return [
+        ("a client that waits, without automatic keys", lambda it: life_of_a_key(it, "--no-auto")),
+        ("a client that waits, with automatic keys", life_of_a_key),
+        ("a client that sends frames in two pieces", pieces),
+        ("a client that sends a bad frame", bad_frame),
+        ("a session without random bytes", no_random_bytes),
+        ("samples/session.txt", sample_session),
+        ("samples/requests.py there and back", requests_and_replies),
+        ("samples/requests.py on what are no requests", bad_texts),
+    ]

@@ -283,3 +283,60 @@ fn faults(rt: HostRuntime) -> Result<(), Fail> {
     }
     Ok(())
 }
+
+// How a session over an empty repository ends, by draws of zeros at day 0, where calls of the keeper
+// and of the draw fail, and what it wrote.
+fn session(
+    alloc: Global,
+    input: &[u8],
+    keeps: &[u64],
+    draws: &[u64],
+) -> Result<(Outcome, Vec<u8>), Fail> {
+    let mut words = Vec::new(alloc);
+    words.push(String::from_str(alloc, "pipe")?)?;
+    words.push(String::from_str(alloc, "--no-auto")?)?;
+    let keeper = MemKeeper::new(ElementList::empty(), keeps.to_vec(alloc)?);
+    let mut repo = OwnRepo::new(alloc, keeper);
+    let mut draw = MemDraw::new(Vec::from_elem(alloc, 0, 1_024)?, draws.to_vec(alloc)?);
+    let mut clock = MemClock::new([day(0)].to_vec(alloc)?);
+    let mut source = MemSource::new(input.to_vec(alloc)?, 4_096, Vec::new(alloc));
+    let mut sink = MemSink::new(alloc, 4_096, Vec::new(alloc));
+    let outcome = run(
+        alloc,
+        words.as_slice(),
+        &mut repo,
+        &mut draw,
+        &mut clock,
+        &mut source,
+        &mut sink,
+    );
+    Ok((outcome, sink.into_bytes()))
+}
+
+// docs/FORMATS.md, "Frames and requests" and "Replies": a new key, and an opening that fails.
+#[test]
+fn pipes(rt: HostRuntime) -> Result<(), Fail> {
+    let roll = [
+        0, 0, 0, 0x12, 0x02, 0x08, 0xda, 0xa1, 0x9e, 0xa6, 0xb3, 0, 0, 0x08, 0xda, 0xe8, 0x57, 0x8f,
+        0xe0, 0x80, 0, 0x03,
+    ];
+    let rolled = [
+        0, 0, 0, 0x19, 0, 0, 0, 0, 0, 0, 0, 0, 1, 0, 0, 0, 0, 0, 0, 0, 0x40, 0x80, 0, 0, 0, 0, 0, 0,
+        0,
+    ];
+    let none: &[u64] = &[];
+    let nothing: &[u8] = &[];
+    let table = [
+        (none, none, Status::Done, rolled.as_slice(), 1),
+        (&[0], none, Status::StoreFault, nothing, 0),
+        (none, &[0], Status::DrawFault, nothing, 0),
+    ];
+    for (keeps, draws, status, written, entries) in table {
+        let alloc = rt.alloc();
+        let (end, bytes) = session(alloc, &roll, keeps, draws)?;
+        assert_eq!(rt; (end.status, end.bad), (status, None));
+        assert_eq!(rt; bytes.as_slice(), written);
+        assert_eq!(rt; end.trace.entries.as_slice().len(), entries);
+    }
+    Ok(())
+}

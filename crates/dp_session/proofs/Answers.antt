@@ -147,9 +147,9 @@ same_books s h h' t t' d d' e f k l =
 pub dates_tell : (creation activation expiration : ℕ) → AreBadDates creation activation expiration ⊎ (AreBadDates creation activation expiration → ⊥)
 dates_tell c a x =
     ⊎_elim (λ h. inl (inl h.1)) (λ h.
-        ⊎_elim (λ k.
-            ⊎_elim (λ m. inr (λ bad. ⊎_elim (λ z. absurd (omega (arith, z, h.1))) (λ y. ⊎_elim (λ z. absurd (omega (arith, z, k.1))) (λ z. absurd (omega (arith, z, m.1))) y) bad)) (λ m. inl (inr (inr m.1))) (leb_tells x MAX_TICKS))
-        (λ k. inl (inr (inl k.1))) (leb_tells c MAX_TICKS))
+    ⊎_elim (λ k.
+    ⊎_elim (λ m. inr (λ bad. ⊎_elim (λ z. absurd (omega (arith, z, h.1))) (λ y. ⊎_elim (λ z. absurd (omega (arith, z, k.1))) (λ z. absurd (omega (arith, z, m.1))) y) bad)) (λ m. inl (inr (inr m.1))) (leb_tells x MAX_TICKS))
+    (λ k. inl (inr (inl k.1))) (leb_tells c MAX_TICKS))
     (leb_tells x a)
 
 pub late_tells : (date : ℕ) → (MAX_TICKS < date) ⊎ (MAX_TICKS < date → ⊥)

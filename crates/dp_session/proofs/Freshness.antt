@@ -85,8 +85,7 @@ front_within used.NoMemory own f = omega arith
 
 entry_fresh : (b : List ℕ) (e : Entry) (old new : State) → IsEntry b e old new → IsFresh e
 entry_fresh b e old new p = λ h.
-    let f = front_seen e.used new.host.own (serves_front _ _ e.used e.drawn _ _ p.serves) h in
-    (
+    let f = front_seen e.used new.host.own (serves_front _ _ e.used e.drawn _ _ p.serves) h in (
       omega (arith, kept_need e.need (need_of (request_at b)) e.used p.need h, serves_need (request_at b) e.now e.used e.drawn _ _ p.serves h),
       omega (arith, f, p.seen, IsFrontOf-le old.host.own new.host.own p.grows),
     )
@@ -97,8 +96,7 @@ chain_fresh n [] (e ∷ es) old new le p = absurd p
 chain_fresh n (b ∷ bodies) [] old new le p = absurd p
 chain_fresh n (b ∷ bodies) (e ∷ es) old new le p =
     let i = p.1 in
-    let front = front_within e.used p.0.host.own (serves_front _ _ e.used e.drawn _ _ i.serves) in
-    (
+    let front = front_within e.used p.0.host.own (serves_front _ _ e.used e.drawn _ _ i.serves) in (
       omega (arith, i.seen),
       entry_fresh b e old p.0 i,
       chain_fresh (max e.seen (front_of e.used)) bodies es p.0 new (omega (arith, i.seen, front, IsFrontOf-le old.host.own p.0.host.own i.grows)) p.2,

@@ -33,8 +33,7 @@ TakesFront-after None b c xs ys k n p q le lt = tt
 TakesFront-after (Some l) None c xs ys k n p q le lt = absurd p
 TakesFront-after (Some l) (Some m) c xs ys k n p q le lt =
     let few : length m ≤ k = omega (arith, ap length q.0, length-take k m) in
-    let whole : length l ≤ n = omega (arith, ap length p, length-append xs m) in
-    (
+    let whole : length l ≤ n = omega (arith, ap length p, length-append xs m) in (
       ap (λ (t : List ℕ). xs ++ t) (q.0 ∙ take_all k m few) ∙ sym p ∙ sym (take_all n l whole),
       q.1 ∙ ap Some (drop_all k m few ∙ sym (drop_all n l whole)),
     )

@@ -75,8 +75,7 @@ whole_input st bad old new s named spent = over old.input refl
     over None e = tt
     over (Some bytes) e = λ whole.
         let r = left_of s.left bytes (frames s.bodies) (subst (λ (o : Option (List ℕ)). Consumes o s.left (frames s.bodies)) e s.read) in
-        let b = behind whole.0 s.bodies r.0 whole.1 s.fit (sym whole.3 ∙ r.2) in
-        (
+        let b = behind whole.0 s.bodies r.0 whole.1 s.fit (sym whole.3 ∙ r.2) in (
           λ is.
               let ends = subst (λ (x : Status). EndsInput x bad (length (frames s.bodies)) s.left new.input) is s.ends in
               let n = not_bad bad _ s.left new.input r.0 r.1 (named is) ends in

@@ -194,7 +194,9 @@ fn place_key<W, H: Host<W>, R: Repo<W>, D: Draw>(
         Some(alg) => alg,
         None => return Err(Memory),
     };
-    match roll(w, alloc, host, repo, draw, now, activation, expiration, alg, steps) {
+    match roll(
+        w, alloc, host, repo, draw, now, activation, expiration, alg, steps,
+    ) {
         Ok(key) => {
             let front = host.own().len();
             let reply = Reply::Rolled { front, id: key.id };

@@ -111,15 +111,10 @@ fn need_of(request: Result<RequestView<'_>, BadRequest>) -> u64
 {
     match request {
         Ok(RequestView::Ring { need }) => need,
-        Ok(
-            RequestView::Roll { .. }
-            | RequestView::Revoke { .. }
-            | RequestView::RevokeBefore { .. },
-        )
+        Ok(RequestView::Roll { .. } | RequestView::Revoke { .. } | RequestView::RevokeBefore { .. })
         | Err(_) => 0,
     }
 }
-
 
 // The turn of a request that was answered, or found no memory.
 fn turn_of(
@@ -173,8 +168,9 @@ fn serve_body<W, H: Host<W>, R: Repo<W>, D: Draw>(
             let request = RequestView::read(body.as_slice());
             let need = need_of(request);
             let mut steps = steps;
-            let (answered, drawn) =
-                answer_told(w, alloc, host, repo, draw, now, request, &mut steps);
+            let (answered, drawn) = answer_told(
+                w, alloc, host, repo, draw, now, request, &mut steps,
+            );
             turn_of(answered, now, need, seen, steps, drawn)
         }
         None => turn_of(Err(Memory), now, 0, seen, steps, Drawn::none()),
@@ -315,7 +311,9 @@ pub(crate) fn serve_one<W, H: Host<W>, R: Repo<W>, D: Draw, C: Clock, I: Source,
         Ok(Frame::End) => return Err(ended(Status::Done)),
         Err(why) => return Err(unread(why)),
     };
-    match serve_frame(w, alloc, host, repo, draw, clock, output, &body, steps, entries, list) {
+    match serve_frame(
+        w, alloc, host, repo, draw, clock, output, &body, steps, entries, list,
+    ) {
         Ok(()) => Ok(4 + u64::from(body.len)),
         Err(_) => Err(ended(Status::WriteFault)),
     }

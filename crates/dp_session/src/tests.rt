@@ -1,6 +1,6 @@
 use super::*;
 use default_key::Options;
-use dp_base::{AesSize, Alg, Grows, MemClock, MemDraw, MemSink, MemSource};
+use dp_base::{AesSize, Alg, MemClock, MemDraw, MemSink, MemSource};
 use dp_node::{NodeError, Solo};
 use key_elements::{Element, ElementList, Reason, encode, read_list};
 use repo_keeper::{MemKeeper, OwnRepo};
@@ -50,7 +50,7 @@ fn bytes_of(alloc: Global, text: &str) -> Result<Vec<u8>, Fail> {
     for byte in text.as_bytes() {
         if let Some(low) = digit(*byte) {
             match first.take() {
-                Some(high) => bytes.push(high * 16 + low)?,
+                Some(high) => bytes.push((high << 4) | low)?,
                 None => first = Some(low),
             }
         }
@@ -63,7 +63,11 @@ fn revocations(alloc: Global, count: usize) -> Result<ElementList, Fail> {
     let mut bytes = Vec::new(alloc);
     for _ in 0..count {
         let reason = Reason::new(alloc, "")?;
-        encode(alloc, &Element::RevokeBefore { date: 7, reason }, &mut bytes)?;
+        encode(
+            alloc,
+            &Element::RevokeBefore { date: 7, reason },
+            &mut bytes,
+        )?;
     }
     Ok(read_list(alloc, bytes.as_slice())?)
 }
@@ -78,9 +82,15 @@ fn session(
     input: Vec<u8>,
     outside: &Outside<'_>,
 ) -> Result<(SessionEnd, Vec<u8>), Fail> {
-    let keeper = MemKeeper::new(revocations(alloc, outside.list)?, outside.keeps.to_vec(alloc)?);
+    let keeper = MemKeeper::new(
+        revocations(alloc, outside.list)?,
+        outside.keeps.to_vec(alloc)?,
+    );
     let mut repo = OwnRepo::new(alloc, keeper);
-    let mut draw = MemDraw::new(Vec::from_elem(alloc, 0, 1_024)?, outside.draws.to_vec(alloc)?);
+    let mut draw = MemDraw::new(
+        Vec::from_elem(alloc, 0, 1_024)?,
+        outside.draws.to_vec(alloc)?,
+    );
     let mut clock = MemClock::new([DAY_0].to_vec(alloc)?);
     let mut solo = Solo::open(alloc, &mut repo, &mut draw, DAY_0, no_auto()?)?;
     let piece = outside.piece.max(1);
@@ -124,7 +134,10 @@ fn replies(rt: HostRuntime) -> Result<(), Fail> {
             "00000009 00 0000000000000001",
         ),
         ("0000000A 04 2BCA2875F4374000 00", "00000001 09"),
-        ("0000000A 04 08DAA19EA6B30000 00", "00000009 00 0000000000000001"),
+        (
+            "0000000A 04 08DAA19EA6B30000 00",
+            "00000009 00 0000000000000001",
+        ),
     ];
     for (request, reply) in table {
         for piece in [1, 4096] {
@@ -155,7 +168,11 @@ fn bad_frames(rt: HostRuntime) -> Result<(), Fail> {
         let (end, written) = session(alloc, input, &WELL)?;
         let bad = Some(BadPlace { place: 22, why });
         assert_eq!(rt; (end.status, end.bad), (Status::BadInput, bad), "{rest}");
-        assert_eq!(rt; written.as_slice(), bytes_of(alloc, ROLLED)?.as_slice(), "{rest}");
+        assert_eq!(rt;
+            written.as_slice(),
+            bytes_of(alloc, ROLLED)?.as_slice(),
+            "{rest}"
+        );
     }
     Ok(())
 }
@@ -173,7 +190,12 @@ fn full(rt: HostRuntime) -> Result<(), Fail> {
     assert_eq!(rt; written.as_slice(), wanted.as_slice());
     match end.trace.entries.as_slice() {
         [entry] => {
-            assert!(rt; matches!(&entry.used, Used::Refused(NodeError::Full { count: 16_384 })));
+            assert!(rt;
+                matches!(
+                    &entry.used,
+                    Used::Refused(NodeError::Full { count: 16_384 })
+                )
+            );
             let steps = [Step::Drawn { bytes: 80 }, Step::AppendFull];
             assert_eq!(rt; entry.steps.as_slice(), steps.as_slice());
             assert_eq!(rt; (entry.now, entry.need, entry.seen), (DAY_0, 0, 16_384));
@@ -191,19 +213,29 @@ fn traced(rt: HostRuntime) -> Result<(), Fail> {
     let mut input = bytes_of(alloc, ROLL)?;
     input.extend_from_slice(bytes_of(alloc, "00000009 01 0000000000000001")?.as_slice())?;
     let (end, written) = session(alloc, input, &WELL)?;
-    assert_eq!(rt; (end.status, end.bad), (Status::Done, None));
-    assert_eq!(rt; end.trace.list.share()?.len(), 1);
-    match end.trace.entries.as_slice() {
+    let SessionEnd { status, bad, trace } = end;
+    let Trace { list, entries } = trace;
+    assert_eq!(rt; (status, bad), (Status::Done, None));
+    assert_eq!(rt; list.len(), 1);
+    match entries.as_slice() {
         [first, second] => {
             assert!(rt; matches!(&first.used, Used::Placed { place: 0 }));
-            assert!(rt; matches!(&second.used, Used::Ring { front: 1, made_at: DAY_0 }));
+            assert!(rt;
+                matches!(
+                    &second.used,
+                    Used::Ring {
+                        front: 1,
+                        made_at: DAY_0
+                    }
+                )
+            );
             assert_eq!(rt; (second.need, second.seen), (1, 1));
         }
         _ => return Err("two entries".into()),
     }
     let front = bytes_of(alloc, "00 0000000000000001 72696E672031")?;
     assert_eq!(rt; written.get(33..48), Some(front.as_slice()));
-    assert_eq!(rt; end.trace.entries.into_inner().len(), 2);
+    assert_eq!(rt; entries.into_inner().len(), 2);
     Ok(())
 }
 
@@ -235,7 +267,11 @@ fn faults(rt: HostRuntime) -> Result<(), Fail> {
         let alloc = rt.alloc();
         let (end, written) = session(alloc, bytes_of(alloc, twice)?, &outside)?;
         assert_eq!(rt; (end.status, end.bad), (status, None), "{replies}");
-        assert_eq!(rt; written.as_slice(), bytes_of(alloc, replies)?.as_slice(), "{replies}");
+        assert_eq!(rt;
+            written.as_slice(),
+            bytes_of(alloc, replies)?.as_slice(),
+            "{replies}"
+        );
     }
     Ok(())
 }
@@ -249,7 +285,11 @@ fn statuses(rt: HostRuntime) {
         (Status::BadInput, 3, None),
         (Status::ReadFault, 4, Some("dp_server: reading failed")),
         (Status::WriteFault, 5, Some("dp_server: writing failed")),
-        (Status::StoreFault, 6, Some("dp_server: the repository failed")),
+        (
+            Status::StoreFault,
+            6,
+            Some("dp_server: the repository failed"),
+        ),
         (
             Status::DrawFault,
             7,

@@ -34,11 +34,11 @@ returns-in-Err-clause-served g c =
     let a : Asked = asked h.own true (λ bytes. key_of_draw bytes c.args.now c.args.activation c.args.expiration (code_of c.in-Some.alg)) told in
     let asks = ap (λ (n : ℕ). asked h.own true (λ bytes. key_of_draw bytes c.args.now c.args.activation c.args.expiration n) told) c.in-Some.ensures.value in
     ⊎_elim (λ bad.
-        let e : c.in-Err.why ≡ errors.BadDates = let e = c.in-Err.ensures.bad_dates.1 bad in cc in
-        let u = c.in-Err.ensures.untouched bad in
-        let same = same_books c.roll.new.steps h _ store _ draws _ u.3 (ap g.H.HostView.state u.0) (ap g.R.Repo.store u.1) (ap g.D.Draw.draws u.2) in
-        ([], misdated_by p c.args.now old new _ c.in-Err.why bad same e c.refused.ensures.answer))
+    let e : c.in-Err.why ≡ errors.BadDates = let e = c.in-Err.ensures.bad_dates.1 bad in cc in
+    let u = c.in-Err.ensures.untouched bad in
+    let same = same_books c.roll.new.steps h _ store _ draws _ u.3 (ap g.H.HostView.state u.0) (ap g.R.Repo.store u.1) (ap g.D.Draw.draws u.2) in
+    ([], misdated_by p c.args.now old new _ c.in-Err.why bad same e c.refused.ensures.answer))
     (λ good.
-        let x = c.in-Err.ensures.path good in
-        (x.course.drawn, placed_refused p c.args.now a old new good asks c.in-Err.why _ x c.refused.ensures.known c.refused.ensures.answer))
+    let x = c.in-Err.ensures.path good in
+    (x.course.drawn, placed_refused p c.args.now a old new good asks c.in-Err.why _ x c.refused.ensures.known c.refused.ensures.answer))
     (dates_tell c.args.now c.args.activation c.args.expiration)

@@ -35,11 +35,11 @@ returns-in-Err-revoke_before-clause-served g c = λ draws.
     let a : Asked = asked h.own false (λ _. Before c.args.date c.in-Ok.reason) told in
     let asks = ap (λ (text : List ℕ). asked h.own false (λ _. Before c.args.date text) told) c.in-Ok.ensures.value in
     ⊎_elim (λ late.
-        let e : c.in-Err-revoke_before.why ≡ errors.BadDates = let e = c.in-Err-revoke_before.ensures.bad_dates.1 late in cc in
-        let u = c.in-Err-revoke_before.ensures.untouched late in
-        let same = same_books c.revoke_before.new.steps h _ store _ draws draws u.2 (ap g.H.HostView.state u.0) (ap g.R.Repo.store u.1) refl in
-        ([], misdated_by p c.args.now old new _ c.in-Err-revoke_before.why late same e c.refused.ensures.answer))
+    let e : c.in-Err-revoke_before.why ≡ errors.BadDates = let e = c.in-Err-revoke_before.ensures.bad_dates.1 late in cc in
+    let u = c.in-Err-revoke_before.ensures.untouched late in
+    let same = same_books c.revoke_before.new.steps h _ store _ draws draws u.2 (ap g.H.HostView.state u.0) (ap g.R.Repo.store u.1) refl in
+    ([], misdated_by p c.args.now old new _ c.in-Err-revoke_before.why late same e c.refused.ensures.answer))
     (λ good.
-        let x = c.in-Err-revoke_before.ensures.path (late_within c.args.date good) draws in
-        (x.course.drawn, placed_refused p c.args.now a old new good asks c.in-Err-revoke_before.why _ x c.refused.ensures.known c.refused.ensures.answer))
+    let x = c.in-Err-revoke_before.ensures.path (late_within c.args.date good) draws in
+    (x.course.drawn, placed_refused p c.args.now a old new good asks c.in-Err-revoke_before.why _ x c.refused.ensures.known c.refused.ensures.answer))
     (late_tells c.args.date)

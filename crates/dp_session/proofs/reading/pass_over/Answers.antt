@@ -16,8 +16,7 @@ returns-then-more-room-clause-value g c =
     let more = c.in_ok-more.more in
     let buffer = c.read_full.new.buffer in
     let room : length buffer ≡ c.min-room.result = omega (arith, c.read_full.auto.buffer, c.min-room.ensures, c.loop-done.invariant.room, length-take c.min-room.result c.loop-done.piece) in
-    let ys : length (take more buffer) ≡ more = omega (arith, length-take more buffer, c.in_ok-more.ensures.bound) in
-    (
+    let ys : length (take more buffer) ≡ more = omega (arith, length-take more buffer, c.in_ok-more.ensures.bound) in (
       i.0 ++ take more buffer,
       omega (arith, length-append i.0 (take more buffer), i.1, ys),
       TakesFront-after _ _ _ i.0 (take more buffer) (length buffer) c.args.count i.2 c.in_ok-more.ensures.value (omega (arith, i.1, room, c.min-room.ensures, c.loop-done.invariant.within)) (omega (arith, ys, room, c.if-more-room.true)),

@@ -7,10 +7,10 @@ use Rattle.dp_session.proofs.session.serve_session.Given as goal
 abbrev pub invariant-requests : goal.invariant-requests
 invariant-requests g l = record {
   so_far :
-    SoFar
-    (outside (g.I.Source.left l.fn.input) (g.O.Sink.written l.fn.output) (state (g.H.HostView.state l.fn.host) (g.R.Repo.store l.fn.repo) (g.D.Draw.draws l.fn.draw) (g.C.Clock.moments l.fn.clock)) [] [])
-    (outside (g.I.Source.left l.input) (g.O.Sink.written l.output) (state (g.H.HostView.state l.host) (g.R.Repo.store l.repo) (g.D.Draw.draws l.draw) (g.C.Clock.moments l.clock)) l.entries.items l.list)
-    l.place;
+      SoFar
+      (outside (g.I.Source.left l.fn.input) (g.O.Sink.written l.fn.output) (state (g.H.HostView.state l.fn.host) (g.R.Repo.store l.fn.repo) (g.D.Draw.draws l.fn.draw) (g.C.Clock.moments l.fn.clock)) [] [])
+      (outside (g.I.Source.left l.input) (g.O.Sink.written l.output) (state (g.H.HostView.state l.host) (g.R.Repo.store l.repo) (g.D.Draw.draws l.draw) (g.C.Clock.moments l.clock)) l.entries.items l.list)
+      l.place;
   free : (g.H.HostView.state l.host).held ≡ false;
   count : length l.entries.items ≡ l.counter;
   room : l.place ≤ 1048580 * l.counter;

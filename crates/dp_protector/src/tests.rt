@@ -352,7 +352,7 @@ fn refused_heads(rt: HostRuntime) -> Result<(), Fail> {
     let payload = bench.protect(DRAWN, b"")?;
     let version = altered(rt.alloc(), &payload, 3, 1)?;
     // The first byte of the id is 0xff.
-    let id = altered(rt.alloc(), &payload, 4, 0xf3)?;
+    let id = altered(rt.alloc(), &payload, 4, 0x7f)?;
     let unknown = KeyId((ID.0 & !(0xff << 96)) | (0xff << 96));
     let magic = altered(rt.alloc(), &payload, 0, 1)?;
     let cases = [

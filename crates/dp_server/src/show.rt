@@ -15,8 +15,8 @@ use crate::outcome::ShowEnd;
 use crate::transfer::{ReadRefused, read_input};
 use default_key::Options;
 use dp_base::{LAST, Memory, Sink, Source, write_all};
-use key_elements::{ElementList, read_list};
 use dp_session::Status;
+use key_elements::{ElementList, read_list};
 use key_ring::Ring;
 use std::alloc::Global;
 

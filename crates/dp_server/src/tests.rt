@@ -53,10 +53,7 @@ const WELL: Outside<'static> = Outside {
 };
 
 fn empty_repo(alloc: Global) -> OwnRepo<MemKeeper> {
-    OwnRepo::new(
-        alloc,
-        MemKeeper::new(ElementList::empty(), Vec::new(alloc)),
-    )
+    OwnRepo::new(alloc, MemKeeper::new(ElementList::empty(), Vec::new(alloc)))
 }
 
 // How the run ended, and the text written.
@@ -317,12 +314,12 @@ fn session(
 #[test]
 fn pipes(rt: HostRuntime) -> Result<(), Fail> {
     let roll = [
-        0, 0, 0, 0x12, 0x02, 0x08, 0xda, 0xa1, 0x9e, 0xa6, 0xb3, 0, 0, 0x08, 0xda, 0xe8, 0x57, 0x8f,
-        0xe0, 0x80, 0, 0x03,
+        0, 0, 0, 0x12, 0x02, 0x08, 0xda, 0xa1, 0x9e, 0xa6, 0xb3, 0, 0, 0x08, 0xda, 0xe8, 0x57,
+        0x8f, 0xe0, 0x80, 0, 0x03,
     ];
     let rolled = [
-        0, 0, 0, 0x19, 0, 0, 0, 0, 0, 0, 0, 0, 1, 0, 0, 0, 0, 0, 0, 0, 0x40, 0x80, 0, 0, 0, 0, 0, 0,
-        0,
+        0, 0, 0, 0x19, 0, 0, 0, 0, 0, 0, 0, 0, 1, 0, 0, 0, 0, 0, 0, 0, 0x40, 0x80, 0, 0, 0, 0, 0,
+        0, 0,
     ];
     let none: &[u64] = &[];
     let nothing: &[u8] = &[];

@@ -1,6 +1,5 @@
 -- Answers to requests, from the paths of their calls.
-use Rattle.std.proofs.Common.{◌≡◌, ℕ, ◌+◌, ◌-◌, ◌^◌, ◌≤◌, ◌<◌, List, [], ◌∷◌, ◌++◌, length, take, true, Option, Some, None, Result, Ok, Err, OnOk, refl, sym, ap, ◌∙◌, subst, arith, ◌⊎◌, ⊎_elim, inl, inr}
-use Rattle.std.specs.Int.{w32, w64, to_be_bytes}
+use Rattle.std.proofs.Common.{◌≡◌, ℕ, ◌+◌, ◌^◌, ◌≤◌, ◌<◌, List, [], length, take, true, Option, Some, None, Result, Ok, Err, OnOk, refl, sym, ap, ◌∙◌, subst, arith, ◌⊎◌, ⊎_elim, inl, inr}
 use Rattle.std.proofs.lemmas.Bool.{le-ltb}
 use Rattle.std.proofs.lemmas.Bool.Decides.{leb_tells}
 use Rattle.std.proofs.lemmas.List.{length-append}
@@ -12,7 +11,6 @@ use Rattle.dp_base.proofs.Guid.{length-guid}
 use Rattle.dp_base.specs.declared.want.Memory.{Memory}
 use Rattle.key_elements.specs.declared.element.Element.{Element}
 use Rattle.key_ring.specs.Ring.{RingOf}
-use Rattle.key_ring.specs.Listing.{listing}
 use Rattle.repo_keeper.specs.Made.{key_of_draw, AreBadDates}
 use Rattle.repo_keeper.specs.Store.{Store}
 use Rattle.ring_world.specs.declared.step.Step.{Step}

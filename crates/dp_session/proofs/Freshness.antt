@@ -1,6 +1,6 @@
 -- What follows of the chain of a session's requests: what was seen, and what was counted.
-use Rattle.std.proofs.Common.{◌≡◌, ℕ, ◌+◌, ◌-◌, ◌≤◌, max, Bool, true, false, if◌then◌else◌, nat_le, List, [], ◌∷◌, ◌++◌, length, Option, Result, Ok, Err, refl, sym, ap, subst, ◌∙◌, append_assoc, inl, inr, ⊎_elim, arith}
-use Rattle.std.specs.List.{AllByRecursion, flat_map}
+use Rattle.std.proofs.Common.{◌≡◌, ℕ, ◌+◌, ◌≤◌, max, Bool, true, false, if◌then◌else◌, nat_le, List, [], ◌∷◌, ◌++◌, length, Option, Result, Ok, Err, refl, sym, ap, subst, ◌∙◌, append_assoc, ⊎_elim, arith}
+use Rattle.std.specs.List.{flat_map}
 use Rattle.std.proofs.lemmas.Bool.{leb-true}
 use Rattle.std.proofs.lemmas.List.{append-nil}
 use Rattle.dp_base.specs.Counts.{more}
@@ -28,7 +28,7 @@ use Rattle.dp_wire.specs.Request.{Request, Ring, Roll, Revoke, RevokeBefore}
 use Rattle.dp_session.specs.declared.trace.Entry.{Entry}
 use Rattle.dp_session.specs.declared.trace.Used.{Used}
 use Rattle.dp_session.specs.declared.trace.Used.TheVariants as used
-use Rattle.dp_session.specs.Fresh.{IsFresh, AreFresh, AreCounted, IsCounted, total, AreCountedBy}
+use Rattle.dp_session.specs.Fresh.{IsFresh, AreFresh, AreCounted, IsCounted, AreCountedBy}
 use Rattle.dp_session.specs.Serving.{State, IsEntry, Serves, unread, unstarted, misdated, by_ring, by_place, IsByRing, IsByPlace, IsNeed, need_of, before, after, Asks}
 use Rattle.dp_session.specs.Session.{Chain, front_of, has_list}
 use Rattle.dp_session.proofs.Sessions.{HasFront, serves_front}

@@ -1,5 +1,5 @@
 -- What follows of the lawful path of a call that was answered.
-use Rattle.std.proofs.Common.{◌≡◌, ℕ, ◌+◌, ◌-◌, ◌≤◌, Bool, true, false, if◌then◌else◌, nat_le, List, [], ◌∷◌, ◌++◌, length, take, drop, append_assoc, Option, Result, Ok, Err, sym, ap, ◌∙◌, arith}
+use Rattle.std.proofs.Common.{◌≡◌, ℕ, ◌+◌, ◌-◌, ◌≤◌, Bool, true, false, if◌then◌else◌, nat_le, List, [], ◌∷◌, ◌++◌, length, take, drop, append_assoc, Result, Ok, Err, sym, ap, ◌∙◌, arith}
 use Rattle.std.proofs.lemmas.List.{length-append}
 use Rattle.dp_base.specs.Guid.{drawn_id}
 use Rattle.dp_base.specs.declared.key_id.KeyId.{KeyId}
@@ -9,11 +9,11 @@ use Rattle.key_elements.specs.declared.element.KeyRecord.{KeyRecord}
 use Rattle.key_ring.specs.Ring.{RingOf}
 use Rattle.repo_keeper.specs.Made.{key_of_draw}
 use Rattle.ring_world.specs.Course.{Course}
-use Rattle.ring_world.specs.Flight.{Refusal, Memory}
+use Rattle.ring_world.specs.Flight.{Refusal}
 use Rattle.ring_world.specs.Path.{Call, CallPath, complete, cut_off, path_end, answered, own_after}
 use Rattle.ring_world.specs.Placing as placing
 use Rattle.ring_world.specs.Placing.{Asked, Placing, Placed, Undrawn, Unplaced, Overfull, Receded, PlacePath, place_of, place_end, place_course}
-use Rattle.dp_node.specs.Places.{asked, EndsWithKey}
+use Rattle.dp_node.specs.Places.{EndsWithKey}
 use Rattle.dp_node.proofs.Placings.{grown-some}
 
 enough : (b : Bool) (y r : RingOf) (why : Refusal) → (if b then Ok y else Err why) ≡ Ok r → y ≡ r

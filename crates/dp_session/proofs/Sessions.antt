@@ -1,8 +1,7 @@
 -- Requests served one after the other.
-use Rattle.std.proofs.Common.{◌≡◌, ℕ, ◌+◌, ◌-◌, ◌<◌, ◌≤◌, ◌↔◌, suc, max, min, Bool, true, false, ◌||◌, List, [], ◌∷◌, ◌++◌, length, take, drop, Option, Some, None, IfSome, IsSome, Result, Ok, Err, refl, sym, ap, subst, ◌∙◌, append_assoc, arith}
-use Rattle.std.specs.List.{flat_map, AllByRecursion}
+use Rattle.std.proofs.Common.{◌≡◌, ℕ, ◌+◌, ◌≤◌, ◌↔◌, suc, max, Bool, true, false, ◌||◌, List, [], ◌∷◌, ◌++◌, length, take, Option, Some, None, IfSome, IsSome, Result, refl, sym, ap, subst, ◌∙◌, append_assoc, arith}
 use Rattle.std.specs.Io.KnownBytes.{Consumes}
-use Rattle.std.proofs.lemmas.List.{append-nil, length-append, take_all, length-take}
+use Rattle.std.proofs.lemmas.List.{append-nil, length-append}
 use Rattle.std.proofs.Math.Seq.{take-length, take-take}
 use Rattle.dp_base.specs.Transfer.{Writes, WritesFront}
 use Rattle.dp_base.proofs.KnownBytes.{Consumes-none, Consumes-both}
@@ -17,7 +16,7 @@ use Rattle.dp_node.specs.Books.{Books}
 use Rattle.dp_node.proofs.Books.{IsFrontOf-trans, IsFrontOf-refl, IsFrontOf-le}
 use Rattle.dp_wire.specs.Frame.{frame, IsBodyLen}
 use Rattle.dp_wire.specs.Reading.{request_at}
-use Rattle.dp_wire.specs.Request.{Request, Ring, Roll, Revoke, RevokeBefore}
+use Rattle.dp_wire.specs.Request.{Request}
 use Rattle.dp_wire.specs.declared.request.BadRequest.{BadRequest}
 use Rattle.dp_session.specs.declared.end.BadPlace.{BadPlace}
 use Rattle.dp_session.specs.declared.end.BadWhy.{BadWhy}
@@ -31,7 +30,7 @@ use Rattle.dp_session.specs.Replies.{reply_to}
 use Rattle.dp_session.specs.Serving.{State, IsEntry, Serves, unread, unstarted, misdated, by_ring, by_place, IsByRing, IsByPlace}
 use Rattle.dp_session.proofs.Paths.{own_by_ring, placed_last}
 use Rattle.dp_session.proofs.Turns.{length-frame}
-use Rattle.dp_session.specs.Session.{Chain, front_of, longest, reply_frame, session_output, IsListAfter, Outside, outside, OneServed, OneMore, has_list, any_list, IsLongest, SoFar, IsSession, NoMore, EndsAt, EndsInput, EndsOutput, IsSpentEnd, bad_at}
+use Rattle.dp_session.specs.Session.{Chain, front_of, longest, reply_frame, session_output, IsListAfter, Outside, outside, OneMore, has_list, any_list, IsLongest, SoFar, IsSession, NoMore, EndsAt, EndsInput, EndsOutput, IsSpentEnd, bad_at}
 
 -- one entry more
 chain-more : (bodies : List (List ℕ)) (es : List Entry) (a b c : State) (body : List ℕ) (e : Entry) → Chain bodies es a b → IsEntry body e b c → Chain (bodies ++ body ∷ []) (es ++ e ∷ []) a c

@@ -1,5 +1,5 @@
 -- The turn of a request, from its answer.
-use Rattle.std.proofs.Common.{◌≡◌, ℕ, ◌+◌, min, List, [], ◌∷◌, ◌++◌, length, Option, Some, None, Result, Ok, Err, OnOk, OnErr, refl, sym, ap, ◌∙◌, subst, inl}
+use Rattle.std.proofs.Common.{◌≡◌, ℕ, ◌+◌, min, List, [], ◌∷◌, ◌++◌, length, Option, None, Result, Ok, Err, OnOk, OnErr, refl, sym, ap, ◌∙◌, subst, inl}
 use Rattle.std.specs.Int.{w32, to_be_bytes}
 use Rattle.std.specs.Io.KnownBytes.{Consumes}
 use Rattle.std.proofs.lemmas.List.{length-append}
@@ -21,7 +21,7 @@ use Rattle.dp_wire.specs.Reading.{request_at}
 use Rattle.dp_session.specs.declared.answer.Answered.{Answered}
 use Rattle.dp_session.specs.Serving.{State, state, Serves, Served, before, after, need_of, IsListOf}
 use Rattle.dp_session.specs.Turns.{turn_of, list_after, reply_bytes, IsTurn}
-use Rattle.dp_session.specs.Session.{Outside, outside, IsListAfter, OneServed, OneMore}
+use Rattle.dp_session.specs.Session.{outside, IsListAfter, OneServed, OneMore}
 
 pub answered_turn : (bytes : List ℕ) (now need seen : ℕ) (steps : List Step) (drawn : List ℕ) (old new : State) (r : Result Answered Memory) → Served (request_at bytes) now r drawn (before old) (after steps drawn new) → need ≡ need_of (request_at bytes) → seen ≡ length old.host.own → Extends new.host.own old.host.own
     → IsTurn bytes now (turn_of r now need seen steps drawn) old new

@@ -1,5 +1,5 @@
 -- What one request does: to the pass, to the repository and to the draw.
-use Rattle.std.specs.Prelude.{◌≡◌, ◌≢◌, ◌⊎◌, ℕ, ◌<◌, min, Bool, true, false, List, [], length, Option, Some, None, Result, Ok, Err}
+use Rattle.std.specs.Prelude.{◌≡◌, ◌≢◌, ◌⊎◌, ℕ, ◌<◌, min, true, false, List, [], length, Option, Some, None, Result, Ok, Err}
 use Rattle.dp_base.specs.declared.ticks.TheConstants.{LAST, MAX_TICKS}
 use Rattle.dp_base.specs.Clocks.{ShowsMoment}
 use Rattle.dp_base.specs.Draws.{DrawState}

@@ -13,5 +13,5 @@ returns-in-len2-clause-none c =
     let first = c.command-item-then-words-lt3 in
     let two = two_items c.args.words.now first.result c.second-item.result c.in-len2.len_at_least c.in-len2.len_below first.is c.second-item.is in
     let words : map (string_bytes {Z = Global}) c.args.words.now ≡ c.as_str-in-len2.result.now ∷ c.as_str-in-len2-2.result.now ∷ [] =
-        ap (map string_bytes) two ∙ ap (λ (t : List ℕ). t ∷ string_bytes c.second-item.result ∷ []) (sym c.as_str-in-len2.ensures.value) ∙ ap (λ (t : List ℕ). c.as_str-in-len2.result.now ∷ t ∷ []) (sym c.as_str-in-len2-2.ensures.value) in
+    ap (map string_bytes) two ∙ ap (λ (t : List ℕ). t ∷ string_bytes c.second-item.result ∷ []) (sym c.as_str-in-len2.ensures.value) ∙ ap (λ (t : List ℕ). c.as_str-in-len2.result.now ∷ t ∷ []) (sym c.as_str-in-len2-2.ensures.value) in
     rw words (none_where (c.as_str-in-len2.result.now ∷ c.as_str-in-len2-2.result.now ∷ []) c.two_words.result c.two_words.ensures.value c.two_words.ensures.only)

@@ -1,4 +1,4 @@
-use Rattle.std.proofs.Common.{◌≡◌, ◌+◌, ◌<◌, ℕ, List, [], false, refl, ap, ⊎_elim}
+use Rattle.std.proofs.Common.{◌≡◌, ◌<◌, ℕ, List, [], false, refl, ap, ⊎_elim}
 use Rattle.dp_base.specs.declared.ticks.TheConstants.{MAX_TICKS}
 use Rattle.key_elements.specs.declared.element.Element.TheVariants.{RevokeBefore as Before}
 use Rattle.ring_world.specs.Placing.{Asked}

@@ -1,4 +1,4 @@
-use Rattle.std.proofs.Common.{◌≡◌, ◌+◌, ℕ, List, false, refl, ap}
+use Rattle.std.proofs.Common.{ℕ, List, false, ap}
 use Rattle.key_elements.specs.declared.element.Element.TheVariants.{RevokeKey}
 use Rattle.ring_world.specs.Placing.{Asked}
 use Rattle.dp_node.specs.Places.{asked}

@@ -1,4 +1,4 @@
-use Rattle.std.proofs.Common.{◌≡◌, ◌+◌, ◌-◌, ◌<◌, ◌≤◌, ◌++◌, length, take, drop, ◌∙◌, arith}
+use Rattle.std.proofs.Common.{◌≡◌, ◌++◌, length, take, drop, ◌∙◌, arith}
 use Rattle.std.proofs.lemmas.List.{length-append, length-take, length-drop}
 use Rattle.dp_base.proofs.KnownBytes.{Consumes-both, TakesAtMost-front}
 use Rattle.dp_session.proofs.Taking.{TakesAtMost-after, TakesFront-after, Consumes-front}

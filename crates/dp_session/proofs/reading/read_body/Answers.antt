@@ -1,8 +1,5 @@
-use Rattle.std.proofs.Common.{◌≡◌, Err, ◌∙◌, length, take, arith, sym, subst, Result, ap}
+use Rattle.std.proofs.Common.{◌≡◌, length, take, arith}
 use Rattle.std.proofs.lemmas.List.{length-take}
-use Rattle.dp_session.specs.declared.reading.Unread.{Unread}
-use Rattle.dp_session.specs.declared.reading.Unread.TheVariants as unread
-use Rattle.dp_session.specs.Frames.{ReadsBody}
 use Rattle.dp_session.proofs.Taking.{short_body_read}
 use Rattle.dp_session.proofs.reading.read_body.Goals as goal
 

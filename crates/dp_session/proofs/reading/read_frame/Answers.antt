@@ -1,4 +1,4 @@
-use Rattle.std.proofs.Common.{◌≡◌, length, ◌+◌, ◌≤◌, arith}
+use Rattle.std.proofs.Common.{◌≡◌, length, arith}
 use Rattle.std.proofs.lemmas.Result.{err_from_is_err_and}
 use Rattle.dp_session.proofs.Taking.{TakesAtMost-after, whole_head, frame_of_body, cut_behind, bad_head}
 use Rattle.dp_session.proofs.reading.read_frame.Goals as goal

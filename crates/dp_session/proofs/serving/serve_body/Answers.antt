@@ -1,8 +1,8 @@
-use Rattle.std.proofs.Common.{◌≡◌, ◌∙◌, List, ℕ, length, Some, None, refl, sym, ap, subst}
+use Rattle.std.proofs.Common.{◌≡◌, ◌∙◌, length, ap}
 use Rattle.dp_base.specs.Readers.{seen}
 use Rattle.dp_wire.specs.Reading.{request_at}
 use Rattle.dp_wire.specs.Request.{request_of}
-use Rattle.dp_session.specs.Serving.{state, need_of}
+use Rattle.dp_session.specs.Serving.{need_of}
 use Rattle.dp_session.proofs.Turns.{answered_turn}
 use Rattle.dp_session.proofs.serving.serve_body.Goals as goal
 

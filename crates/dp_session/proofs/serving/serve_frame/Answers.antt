@@ -1,4 +1,4 @@
-use Rattle.std.proofs.Common.{◌≡◌, ◌∷◌, [], ◌++◌, refl, rules}
+use Rattle.std.proofs.Common.{◌≡◌, ◌∷◌, [], ◌++◌, rules}
 use Rattle.dp_base.specs.Transfer.{Writes, WritesFront}
 use Rattle.dp_session.proofs.Turns.{served_one, done, failed}
 use Rattle.dp_session.proofs.serving.serve_frame.Goals as goal

@@ -1,4 +1,4 @@
-use Rattle.std.proofs.Common.{◌≡◌, ◌+◌, ap, refl, length}
+use Rattle.std.proofs.Common.{◌+◌, ap, refl}
 use Rattle.dp_base.specs.Transfer.{Writes, WritesFront}
 use Rattle.dp_session.proofs.Turns.{one_more}
 use Rattle.dp_session.proofs.serving.serve_one.Goals as goal

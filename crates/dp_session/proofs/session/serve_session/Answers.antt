@@ -1,4 +1,4 @@
-use Rattle.std.proofs.Common.{◌≡◌, ◌≤◌, ◌+◌, ◌*◌, ◌<◌, ◌∙◌, length, None, refl, sym, ap, subst, arith}
+use Rattle.std.proofs.Common.{◌∙◌, length, None, refl, ap, arith}
 use Rattle.dp_base.specs.Counts.{one_more}
 use Rattle.dp_session.proofs.Freshness.{chain_fresh, chain_counts}
 use Rattle.dp_session.proofs.Whole.{whole_input, spent_bad}

@@ -1,5 +1,6 @@
 #!/usr/bin/env python3
-"""A client of the key ring for Python programs.
+"""A client of the key ring for Python programs, for the server to come: `dp_server pipe` doesn't read
+requests to protect and unprotect yet, and answers each with BadRequest.
 
     from protector import Protector, KeyRevoked
 

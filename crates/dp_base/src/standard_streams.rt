@@ -92,7 +92,8 @@ impl<W: Write> Sink for WriteSink<W> {
     ghost faults = { λ s. s.faults };
 
     // A write that a signal interrupted has moved nothing, and is made again. A writer that takes
-    // nothing of a piece would be asked for ever, so that counts as a fault.
+    // nothing of a piece would be asked for ever, so that counts as a fault. The loop is a range for
+    // the same reason as the source's.
     fn write(&mut self, piece: &[u8]) -> Result<usize, Failed> {
         for _ in 0..u64::MAX {
             match self.writer.write(piece) {

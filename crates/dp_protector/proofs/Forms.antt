@@ -65,31 +65,31 @@ payload-one text payload a b =
 
 -- ---- texts
 
-module _ (ring : RingOf) (chain : List (List ℕ)) (text : List ℕ) (allow : Bool) where
-  pub text-none : (why : TextRefused) → (why ≡ texts.Memory) ⊎ ((why ≡ texts.BadText) × (payload_of text ≡ None))
+module _ (ring : RingOf) (chain : List (List ℕ)) (allow : Bool) where
+  pub text-none : (text : List ℕ) (why : TextRefused) → (why ≡ texts.Memory) ⊎ ((why ≡ texts.BadText) × (payload_of text ≡ None))
       → (opened_text ring chain text allow ≡ Err why) ⊎ (why ≡ texts.Memory)
   unfolding opened_text
-  text-none why (inl memory) = inr memory
-  text-none why (inr (bad, none)) = inl (ap (λ (o : Option (List ℕ)). opened_payload ring chain o allow) none ∙ ap Err (sym bad))
+  text-none text why (inl memory) = inr memory
+  text-none text why (inr (bad, none)) = inl (ap (λ (o : Option (List ℕ)). opened_payload ring chain o allow) none ∙ ap Err (sym bad))
 
-  module _ (payload : List ℕ) (found : payload_of text ≡ Some payload) where
-    of_payload : opened_text ring chain text allow ≡ as_text (opened ring chain payload allow)
+  module _ (payload : List ℕ) where
+    pub text-payload : (text : List ℕ) → payload_of text ≡ Some payload → opened_text ring chain text allow ≡ as_text (opened ring chain payload allow)
     unfolding opened_text
-    of_payload = ap (λ (o : Option (List ℕ)). opened_payload ring chain o allow) found
+    text-payload text found = ap (λ (o : Option (List ℕ)). opened_payload ring chain o allow) found
 
     pub text-refused : (why : UnprotectRefused) → (opened ring chain payload allow ≡ Err why) ⊎ ((why ≡ payloads.Memory) × WantsMemory (opened ring chain payload allow))
-        → (opened_text ring chain text allow ≡ Err (refused_in_text why)) ⊎ (refused_in_text why ≡ texts.Memory)
-    text-refused why (inl told) = inl (of_payload ∙ ap as_text told)
+        → (as_text (opened ring chain payload allow) ≡ Err (refused_in_text why)) ⊎ (refused_in_text why ≡ texts.Memory)
+    text-refused why (inl told) = inl (ap as_text told)
     text-refused why (inr (memory, wants)) = inr (ap refused_in_text memory)
 
     pub text-ok : (o : Opening) (plain : List ℕ) → opened ring chain payload allow ≡ Ok o → is_utf8 o.plain ≡ true → o.plain ≡ plain
-        → opened_text ring chain text allow ≡ Ok (record { plain = plain; revoked = o.revoked; default_changed = o.default_changed })
+        → as_text (opened ring chain payload allow) ≡ Ok (record { plain = plain; revoked = o.revoked; default_changed = o.default_changed })
     text-ok o plain told utf8 same =
         let with_plain : List ℕ → Result Opening TextRefused = λ p. Ok (record { plain = p; revoked = o.revoked; default_changed = o.default_changed }) in
-        of_payload ∙ ap as_text told ∙ rw utf8 refl ∙ ap with_plain same
+        ap as_text told ∙ rw utf8 refl ∙ ap with_plain same
 
-    pub text-not : (o : Opening) → opened ring chain payload allow ≡ Ok o → is_utf8 o.plain ≡ false → opened_text ring chain text allow ≡ Err texts.NotText
-    text-not o told utf8 = of_payload ∙ ap as_text told ∙ rw utf8 refl
+    pub text-not : (o : Opening) → opened ring chain payload allow ≡ Ok o → is_utf8 o.plain ≡ false → as_text (opened ring chain payload allow) ≡ Err texts.NotText
+    text-not o told utf8 = ap as_text told ∙ rw utf8 refl
 
 -- ---- payloads that expire
 

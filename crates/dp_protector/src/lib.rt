@@ -19,6 +19,6 @@ pub use law::{
 pub use opened::{Opened, OpenedText, OpenedTimed};
 pub use protect::{MAX_PLAIN, protect_with};
 pub use refused::{ProtectRefused, TextRefused, TimedOpenRefused, UnprotectRefused};
-pub use text::{MAX_TEXT, protect_text, unprotect_text};
+pub use text::{MAX_TEXT, open_text, payload_of, protect_text, unprotect_text};
 pub use timed::{MAX_TIMED, protect_timed, unprotect_timed};
 pub use unprotect::unprotect_with;

@@ -4,7 +4,8 @@ ghost use Rattle.std.specs.Prelude.{◌≡◌, ◌↔◌, ◌⊎◌, ◌<◌, �
 ghost use Rattle.dp_base.specs.Draws.{Draws};
 ghost use Rattle.key_ring.specs.Ring.{default_key};
 ghost use Rattle.dp_protector.specs.Protect.{Drew, IsEarly, Sealed, draw_len};
-ghost use Rattle.dp_protector.specs.Text.{TextAnswers, opened_text, payload_of, protects_text, text_of};
+ghost use Rattle.dp_protector.specs.Opening.{opened};
+ghost use Rattle.dp_protector.specs.Text.{TextAnswers, as_text, opened_text, payload_of, protects_text, text_of};
 ghost use Rattle.dp_protector.specs.declared.refused.ProtectRefused.TheVariants as refused;
 ghost use Rattle.dp_protector.specs.declared.refused.TextRefused.TheVariants as texts;
 
@@ -61,14 +62,39 @@ pub fn protect_text<D: Draw>(
     Ok(URL_SAFE_NO_PAD.encode(alloc, &payload)?)
 }
 
-// The payload that a text is of, each in one way.
-fn payload_of(alloc: Global, text: &[u8]) -> Result<Vec<u8>, TextRefused>
+/// The payload that a text is of, each in one way: what `unprotect_text` opens.
+pub fn payload_of(alloc: Global, text: &[u8]) -> Result<Vec<u8>, TextRefused>
     ensures found { IfOk result (λ v. payload_of text.now ≡ Some v.items) }
     ensures short { IfOk result (λ v. length v.items ≤ length text.now) }
     ensures none { IfErr result (λ why. (why ≡ texts.Memory)
         ⊎ ((why ≡ texts.BadText) × (payload_of text.now ≡ None))) }
 {
     Ok(URL_SAFE_NO_PAD.decode(alloc, text)?)
+}
+
+/// What a payload opens to by the ring, for a chain of purposes, where its plaintext is to be a text:
+/// `unprotect_text` behind `payload_of`. A revoked key opens where `allow_revoked` is set.
+pub fn open_text(
+    alloc: Global,
+    ring: &Ring,
+    headers: &HeaderTable,
+    chain: &Chain,
+    payload: &[u8],
+    allow_revoked: bool,
+) -> Result<OpenedText, TextRefused>
+    requires { length payload.now < 2 ^ 32 }
+    ensures { TextAnswers result
+        (as_text (opened ring.now chain.now payload.now allow_revoked)) }
+{
+    let opened = unprotect_with(alloc, ring, headers, chain, payload, allow_revoked)?;
+    match String::from_utf8(opened.plain) {
+        Ok(text) => Ok(OpenedText {
+            text,
+            revoked: opened.revoked,
+            default_changed: opened.default_changed,
+        }),
+        Err(_) => Err(TextRefused::NotText),
+    }
 }
 
 /// What a text opens to by the ring, for a chain of purposes: the text that was protected. A revoked key
@@ -85,13 +111,5 @@ pub fn unprotect_text(
     ensures { TextAnswers result (opened_text ring.now chain.now text.now allow_revoked) }
 {
     let payload = payload_of(alloc, text)?;
-    let opened = unprotect_with(alloc, ring, headers, chain, &payload, allow_revoked)?;
-    match String::from_utf8(opened.plain) {
-        Ok(text) => Ok(OpenedText {
-            text,
-            revoked: opened.revoked,
-            default_changed: opened.default_changed,
-        }),
-        Err(_) => Err(TextRefused::NotText),
-    }
+    open_text(alloc, ring, headers, chain, &payload, allow_revoked)
 }

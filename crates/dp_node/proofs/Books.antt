@@ -36,11 +36,11 @@ want_after-append : (n : ℕ) (s t : List Step) → want_after n (s ++ t) ≡ wa
 want_after-append n [] t = refl
 want_after-append n (x ∷ s) t = want_after-append (want_by n x) s t
 
-draws_failed-append : (s t : List Step) → draws_failed (s ++ t) ≡ draws_failed s + draws_failed t
+pub draws_failed-append : (s t : List Step) → draws_failed (s ++ t) ≡ draws_failed s + draws_failed t
 draws_failed-append [] t = omega arith
 draws_failed-append (x ∷ s) t = omega (arith, draws_failed-append s t)
 
-drawn_count-append : (s t : List Step) → drawn_count (s ++ t) ≡ drawn_count s + drawn_count t
+pub drawn_count-append : (s t : List Step) → drawn_count (s ++ t) ≡ drawn_count s + drawn_count t
 drawn_count-append [] t = omega arith
 drawn_count-append (x ∷ s) t = omega (arith, drawn_count-append s t)
 
@@ -65,15 +65,15 @@ tally_calls-append : (s t : List Step) → (tally (s ++ t)).calls ≡ (tally s).
 tally_calls-append [] t = omega arith
 tally_calls-append (x ∷ s) t = omega (arith, tally_calls-append s t)
 
-tally_faults-append : (s t : List Step) → (tally (s ++ t)).faults ≡ (tally s).faults + (tally t).faults
+pub tally_faults-append : (s t : List Step) → (tally (s ++ t)).faults ≡ (tally s).faults + (tally t).faults
 tally_faults-append [] t = omega arith
 tally_faults-append (x ∷ s) t = omega (arith, tally_faults-append s t)
 
-tally_shorts-append : (s t : List Step) → (tally (s ++ t)).shorts ≡ (tally s).shorts + (tally t).shorts
+pub tally_shorts-append : (s t : List Step) → (tally (s ++ t)).shorts ≡ (tally s).shorts + (tally t).shorts
 tally_shorts-append [] t = omega arith
 tally_shorts-append (x ∷ s) t = omega (arith, tally_shorts-append s t)
 
-tally_fulls-append : (s t : List Step) → (tally (s ++ t)).fulls ≡ (tally s).fulls + (tally t).fulls
+pub tally_fulls-append : (s t : List Step) → (tally (s ++ t)).fulls ≡ (tally s).fulls + (tally t).fulls
 tally_fulls-append [] t = omega arith
 tally_fulls-append (x ∷ s) t = omega (arith, tally_fulls-append s t)
 

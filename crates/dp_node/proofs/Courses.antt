@@ -1,6 +1,6 @@
 -- Lawful paths, joined from their parts.
 use Rattle.std.proofs.Common.{◌≡◌, ℕ, ◌<◌, ◌≤◌, Bool, true, false, ◌&&◌, ◌||◌, List, [], ◌∷◌, ◌++◌, length, refl, sym, ap, ◌∙◌, Option, Some, None, Result, Ok, Err, arith, inl, inr, IfSome, nat_le, if◌then◌else◌}
-use Rattle.std.proofs.lemmas.List.{append-nil, take_all}
+use Rattle.std.proofs.lemmas.List.{take_all}
 use Rattle.std.proofs.lemmas.Bool.Decides.{nat_tests}
 use Rattle.std.proofs.lemmas.Bool.{le-leb}
 use Rattle.key_elements.specs.declared.element.Element.{Element}
@@ -8,18 +8,19 @@ use Rattle.key_elements.specs.Lists.{Agree, IsFirstDifference}
 use Rattle.dp_node.proofs.Books.{IsFrontOf}
 use Rattle.key_ring.specs.Ring.{RingOf, ring_of, due as due_of}
 use Rattle.ring_world.specs.declared.step.Step.{Step}
-use Rattle.ring_world.specs.declared.step.Step.TheVariants.{Want, Take, Busy, Give, ReadFailed, PrivateRead, Answer}
+use Rattle.ring_world.specs.declared.step.Step.TheVariants.{Want, Take, Busy, Give, ReadFailed, PrivateRead}
 use Rattle.ring_world.specs.Course.{Course, stepped, led, closed, IsFront, IsCut, holds}
 use Rattle.ring_world.specs.Lists.{longer}
-use Rattle.ring_world.specs.Flight.{Refusal, StoreFault, Shorter, Behind, Forked, Memory, Sight, sight_steps, Plain, Keyed, Filled, Shrunk, NoRead, ShortRead, NoDraw, NoKeyDraw, NoAppend, ShortAppend, Flown, Broken, whole, cut, FlightGives}
-use Rattle.ring_world.specs.Path.{Call, target, is_enough_for, is_enough, base, Sees, Turn, Rests, Parts, Flies, Path, AtOnce, Stale, Alone, Turned, AloneFailed, AloneShort, Apart, turn_course, path_course, TurnGives, turned, turn_stopped, PathGives, went, stopped, answered, answer_steps, own_after, CallPath, complete, cut_off}
+use Rattle.ring_world.specs.Flight.{Refusal, StoreFault, Shorter, Forked, Memory, Sight, sight_steps, Plain, Keyed, Filled, Shrunk, NoRead, ShortRead, NoDraw, NoKeyDraw, NoAppend, ShortAppend, Flown, Broken, whole, cut, FlightGives}
+use Rattle.ring_world.specs.Path.{Call, target, is_enough_for, is_enough, base, Sees, Turn, Rests, Parts, Flies, Path, AtOnce, Stale, Alone, Turned, AloneFailed, AloneShort, Apart, turn_course, path_course, TurnGives, turned, turn_stopped, PathGives, went, stopped}
 use Rattle.dp_node.specs.Gather.{Reads}
 use Rattle.dp_node.specs.Calls.{is_private, private_step}
 use Rattle.dp_node.proofs.Books.{IsFrontOf-refl}
+use Rattle.dp_node.proofs.Flights.{gather_noted}
 use Rattle.dp_node.proofs.Fronts.{front_unnoted, front_whole, front_led, front_closed, all_leave, all_leave-front, held_behind, free_behind}
 
 -- the holder of the turn gives it back only at the end
-turn_leaves : (c : Call) (x : Turn) → all_leave (turn_course c x).steps ≡ true
+pub turn_leaves : (c : Call) (x : Turn) → all_leave (turn_course c x).steps ≡ true
 turn_leaves c (Rests t) = refl
 turn_leaves c (Parts t at) = refl
 turn_leaves c (Flies t (Flown w (Plain es))) = refl
@@ -34,7 +35,7 @@ turn_leaves c (Flies t (Broken (NoAppend es w k))) = refl
 turn_leaves c (Flies t (Broken (ShortAppend es w k got))) = refl
 
 -- behind a path the turn is free
-path_free : (c : Call) (p : Path) → holds false (path_course c p).steps ≡ false
+pub path_free : (c : Call) (p : Path) → holds false (path_course c p).steps ≡ false
 path_free c (AtOnce s) = refl
 path_free c (Stale s h) = refl
 path_free c (Alone s h es) = refl
@@ -43,32 +44,26 @@ path_free c (AloneFailed s h) = refl
 path_free c (AloneShort s h had got) = refl
 path_free c (Apart s at) = refl
 
-path_noted : (c : Call) (p : Path) → (path_course c p).unnoted ≡ 0
+pub turn_noted : (c : Call) (x : Turn) → (turn_course c x).unnoted ≡ 0
+turn_noted c (Rests t) = refl
+turn_noted c (Parts t at) = refl
+turn_noted c (Flies t x) = gather_noted x
+
+pub path_noted : (c : Call) (p : Path) → (path_course c p).unnoted ≡ 0
 path_noted c (AtOnce s) = refl
 path_noted c (Stale s h) = refl
 path_noted c (Alone s h es) = refl
-path_noted c (Turned s (Rests t)) = refl
-path_noted c (Turned s (Parts t at)) = refl
-path_noted c (Turned s (Flies t (Flown w (Plain es)))) = refl
-path_noted c (Turned s (Flies t (Flown w (Keyed es k fs)))) = refl
-path_noted c (Turned s (Flies t (Flown w (Filled es k)))) = refl
-path_noted c (Turned s (Flies t (Flown w (Shrunk es k got)))) = refl
-path_noted c (Turned s (Flies t (Broken NoRead))) = refl
-path_noted c (Turned s (Flies t (Broken (ShortRead had got)))) = refl
-path_noted c (Turned s (Flies t (Broken (NoDraw es)))) = refl
-path_noted c (Turned s (Flies t (Broken (NoKeyDraw es w)))) = refl
-path_noted c (Turned s (Flies t (Broken (NoAppend es w k)))) = refl
-path_noted c (Turned s (Flies t (Broken (ShortAppend es w k got)))) = refl
+path_noted c (Turned s t) = turn_noted c t
 path_noted c (AloneFailed s h) = refl
 path_noted c (AloneShort s h had got) = refl
 path_noted c (Apart s at) = refl
 
 -- a course behind which the turn is free, cut off there
-free_cut : (d w : Course) → holds false d.steps ≡ false → IsFront d w → IsCut d w
+pub free_cut : (d w : Course) → holds false d.steps ≡ false → IsFront d w → IsCut d w
 free_cut d w h f = record { front = d; is = f; given = sym (rw h refl) }
 
 -- a look that is due
-abbrev due : ℕ → Sight
+abbrev pub due : ℕ → Sight
 due n = record { want = n; ring = record { list = []; made_at = 0; until = 0; excused = 0 } }
 
 not_enough : (c : Call) (n : ℕ) → is_enough c (due n) ≡ false
@@ -76,11 +71,11 @@ unfolding due_of
 not_enough c n = rw (le-leb 0 c.terms.now (omega arith)) refl
 
 -- what a pass may see whose want number was asked
-some_sight : (n : ℕ) (o : Option Sight) → IfSome o (λ one. n ≡ one.want) → (s : Sight) × IfSome o (λ one. s ≡ one) × (n ≡ s.want)
+pub some_sight : (n : ℕ) (o : Option Sight) → IfSome o (λ one. n ≡ one.want) → (s : Sight) × IfSome o (λ one. s ≡ one) × (n ≡ s.want)
 some_sight n None h = (due n, tt, refl)
 some_sight n (Some one) h = (one, refl, h)
 
-want_front : (s : Sight) (n : ℕ) (w : Course) (rest : List Step) → n ≡ s.want → w.steps ≡ Want s.want ∷ rest → w.drawn ≡ [] → IsFront (stepped (Want n ∷ [])) w
+pub want_front : (s : Sight) (n : ℕ) (w : Course) (rest : List Step) → n ≡ s.want → w.steps ≡ Want s.want ∷ rest → w.drawn ≡ [] → IsFront (stepped (Want n ∷ [])) w
 want_front s n w rest e p q = record {
   steps = (rest, p ∙ ap (λ m. Want m ∷ rest) (sym e));
   drawn = ([], q);
@@ -162,23 +157,6 @@ module _ (c : Call) (s : Sight) (sees : Sees c s) (line : Agree c.own s.ring.lis
     path_alone_refused Memory l d (inr p) = path_alone_lost p.0 l d (p.1, p.2)
     path_alone_refused _ l d p = elim p [ ]
 
-module _ (c : Call) where
-  pub call_answered : (r : RingOf) (d : Course) → PathGives c (Ok r) d → CallPath c (answered c.need (Ok r)) r.list (closed d (Answer ∷ []))
-  call_answered r d (went p is l e q) =
-      complete p is l (ap (answered c.need) e) (sym (ap (own_after c.own) e)) (ap (λ (y : Course). closed y (Answer ∷ [])) q ∙ ap (λ (z : Result RingOf Refusal). closed (path_course c p) (answer_steps z)) (sym e))
-  call_answered r d (stopped p is e g) = cc
-
-  pub call_refused : (why : Refusal) (d : Course) → PathGives c (Err why) d → CallPath c (Err why) c.own d
-  call_refused why d (went p is l e q) =
-      complete p is l (ap (answered c.need) e) (sym (ap (own_after c.own) e))
-      (q ∙ ap (λ (z : List Step). record (path_course c p) { steps = z }) (sym (append-nil (path_course c p).steps)) ∙ ap (λ (z : Result RingOf Refusal). closed (path_course c p) (answer_steps z)) (sym e))
-  call_refused why d (stopped p is e g) = cut_off p is e refl g
-
-  pub call_lost : (r : RingOf) (d : Course) → PathGives c (Ok r) d → CallPath c (Err Memory) c.own d
-  call_lost r d (went p is l e q) =
-      rw q (cut_off p is refl refl (free_cut (path_course c p) (path_course c p) (path_free c p) (front_whole (path_course c p) (omega (arith, path_noted c p)))))
-  call_lost r d (stopped p is e g) = cc
-
 -- lists that agree: the longer extends the shorter
 pub IsFrontOf-in_line : (a b : List Element) → Agree a b → length a ≤ length b → IsFrontOf a b
 IsFrontOf-in_line a b h l = sym h ∙ take_all (length b) a l
@@ -214,15 +192,6 @@ longer_extends_list own list h = longer_list own list _ refl h
 -- an enough ring has the elements
 pub enough-target : (now n : ℕ) (s : Sight) → is_enough_for now n s ≡ true → n ≤ length s.ring.list
 enough-target now n s h = le_true n (length s.ring.list) (and_right _ _ h)
-
-lt-leb : (m n : ℕ) → n < m → nat_le m n ≡ false
-lt-leb m n h = grind (arith, nat_tests)
-
-pub answered-enough : (need : ℕ) (r : RingOf) → need ≤ length r.list → answered need (Ok r) ≡ Ok r
-answered-enough need r h = rw (le-leb need (length r.list) h) refl
-
-pub answered-behind : (need : ℕ) (r : RingOf) → length r.list < need → answered need (Ok r) ≡ Err (Behind (length r.list) need)
-answered-behind need r h = rw (lt-leb need (length r.list) h) refl
 
 or_assoc : (a b c : Bool) → (a || (b || c)) ≡ ((a || b) || c)
 or_assoc true b c = refl

@@ -11,6 +11,7 @@ use Rattle.ring_world.specs.declared.step.Step.TheVariants.{Want, Take, Busy, Gi
 use Rattle.ring_world.specs.Course.{Course, idle, stepped, joined}
 use Rattle.ring_world.specs.Flight.{Sight, sight_steps, look_step, publish_step, extend_step}
 use Rattle.ring_world.specs.Path.{Call, TurnGives, PathGives}
+use Rattle.ring_world.specs.Settle.{SecondGives}
 use Rattle.dp_node.specs.declared.error.NodeError.{NodeError}
 use Rattle.dp_node.specs.declared.error.NodeError.TheVariants as errors
 use Rattle.dp_node.specs.HostState.{HostState, latest, acted, looked_at, published, gave, taken, raised}
@@ -19,6 +20,7 @@ use Rattle.dp_node.specs.Books.{Books, books, Recorded, Does}
 use Rattle.dp_node.specs.Gather.{refusal}
 use Rattle.dp_node.proofs.Books.{latest-latest, recorded-joined, acted_by, shown-idle, IsFrontOf-refl, exactly, Course-eq}
 use Rattle.dp_node.proofs.Courses.{turn_none, path_none, turn_apart, turn_apart_lost, path_apart, path_apart_lost}
+use Rattle.dp_node.proofs.Settles.{second_none, second_apart, second_apart_lost}
 
 module _ (steps steps' : List Step) (h h' : HostState) (st : Store) (w : DrawState) where
   -- what holds of the state that the equation names holds of the state
@@ -92,3 +94,11 @@ module _ (c : Call) (steps steps' : List Step) (h h' : HostState) (st : Store) (
   path_refused (errors.Forked f) p =
       exactly _ (did_sight steps steps' h h' st w p.0 p.2 p.3.0 p.1) (path_apart c p.0 (sees p.0 p.3 c.single single) f.at f.left f.right (rw own p.4) (p.5 ∙ sym own) p.6)
   path_refused _ p = elim p [ ]
+
+  pub second_refused : (why : NodeError) → LookRefused why h h' steps steps' → Does (SecondGives c (Err (refusal why))) (books steps h st w) (books steps' h' st w)
+  second_refused errors.Memory (inl p) = exactly _ (did_want steps steps' h h' st w p.0 p.3 p.2) (second_none c p.0 (rw single p.1))
+  second_refused errors.Memory (inr p) =
+      exactly _ (did_sight steps steps' h h' st w p.0 p.3 p.4.0 p.2) (second_apart_lost c p.0 (sees p.0 p.4 c.single single) p.1 (rw own p.5))
+  second_refused (errors.Forked f) p =
+      exactly _ (did_sight steps steps' h h' st w p.0 p.2 p.3.0 p.1) (second_apart c p.0 (sees p.0 p.3 c.single single) f.at f.left f.right (rw own p.4) (p.5 ∙ sym own) p.6)
+  second_refused _ p = elim p [ ]

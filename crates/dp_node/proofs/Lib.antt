@@ -6,6 +6,8 @@ pub mod Renewal
 pub mod Fronts
 pub mod Flights
 pub mod Courses
+pub mod Settles
+pub mod Ways
 pub mod Sights
 pub mod HostSteps
 pub mod Placings

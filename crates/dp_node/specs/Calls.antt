@@ -1,5 +1,6 @@
 -- What a call is asked, in the terms of the paths.
 use Rattle.std.specs.Prelude.{ℕ, Bool, false, true, ◌||◌, List, [], ◌∷◌, Option}
+use Rattle.dp_base.specs.declared.key_id.KeyId.{KeyId}
 use Rattle.default_key.specs.declared.options.Options.{Options}
 use Rattle.key_elements.specs.declared.element.Element.{Element}
 use Rattle.ring_world.specs.declared.step.Step.{Step}
@@ -12,11 +13,13 @@ use Rattle.dp_node.specs.HostState.{HostState}
 abbrev pub terms : ℕ → Options → Bool → Option (List Element) → Terms
 terms now options opening told = record { now = now; options = options; opening = opening; told = told }
 
--- the call of a pass
-abbrev pub call : At → HostState → Option (List Element) → Call
-call at s told = record {
+-- the call of a pass, which may name a key that its ring should hold
+abbrev pub call : At → Option KeyId → HostState → Option (List Element) → Call
+call at missing s told = record {
   terms = terms at.now s.facts.options false told;
   need = at.need;
+  missing = missing;
+  opened_at = s.facts.opened_at;
   own = s.own;
   single = s.single;
 }

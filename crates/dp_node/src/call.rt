@@ -1,22 +1,25 @@
 //! A call that needs a ring.
 
-ghost use Rattle.std.specs.Prelude.{◌≡◌, ◌+◌, ◌≤◌, false, true, [], length, max, IfOk, Bool};
+ghost use Rattle.std.specs.Prelude.{◌≡◌, ◌+◌, ◌≤◌, false, true, [], length, max, IfOk, Bool, Option};
+ghost use Rattle.dp_base.specs.declared.key_id.KeyId.{KeyId};
 ghost use Rattle.dp_base.specs.declared.ticks.TheConstants.{LAST};
 ghost use Rattle.key_elements.specs.Lists.{Extends, Agree};
 ghost use Rattle.ring_world.specs.Lists.{longer};
 ghost use Rattle.ring_world.specs.Flight.{FlightGives};
-ghost use Rattle.ring_world.specs.Path.{TurnGives, PathGives, CallPath};
+ghost use Rattle.ring_world.specs.Path.{TurnGives, PathGives};
+ghost use Rattle.ring_world.specs.Way.{CallPath};
 ghost use Rattle.dp_node.specs.HostState.{Steady};
 ghost use Rattle.dp_node.specs.Sight.{sight_of};
 ghost use Rattle.dp_node.specs.Books.{books, Does};
 ghost use Rattle.dp_node.specs.Gather.{is_memory, refusal, seen};
-ghost use Rattle.dp_node.specs.Calls.{call, is_private};
+ghost use Rattle.dp_node.specs.Calls.{call, terms, is_private};
 
 use crate::error::NodeError;
 use crate::gather::{gather, read_on};
 use crate::host::{Host, HostView};
+use crate::settle::settle;
 use crate::sight::{Sight, look_once};
-use dp_base::{Draw, Grows};
+use dp_base::{Draw, Grows, KeyId};
 use key_elements::ElementList;
 use key_ring::Ring;
 use repo_keeper::Repo;
@@ -47,8 +50,8 @@ fn is_memory(why: &NodeError) -> bool
     }
 }
 
-// Steps 6 to 10.
-fn flight<W, H: Host<W>, R: Repo<W>, D: Draw>(
+/// Steps 6 to 10.
+pub(crate) fn flight<W, H: Host<W>, R: Repo<W>, D: Draw>(
     w: &mut W,
     alloc: Global,
     host: &mut H,
@@ -64,8 +67,9 @@ fn flight<W, H: Host<W>, R: Repo<W>, D: Draw>(
     requires looked { (H.state host.old).looked ≡ sight.now.ring }
     requires in_line { Agree (H.state host.old).own sight.now.ring.list }
     requires room { length steps.old + 5 ≤ 24 }
-    ensures did { Does (FlightGives (call at (H.state host.old) (R.store repo.new).list).terms
-        (longer (H.state host.old).own sight.now.ring.list) (sight_of sight.now) (seen result))
+    ensures did { Does (FlightGives (terms at.now (H.state host.old).facts.options false
+        (R.store repo.new).list) (longer (H.state host.old).own sight.now.ring.list)
+        (sight_of sight.now) (seen result))
         (books steps.old (H.state host.old) (R.store repo.old) (D.draws draw.old))
         (books steps.new (H.state host.new) (R.store repo.new) (D.draws draw.new)) }
     ensures steady { Steady (H.state host.old) (H.state host.new) }
@@ -115,8 +119,8 @@ fn under_turn<W, H: Host<W>, R: Repo<W>, D: Draw>(
     requires held { (H.state host.old).held ≡ true }
     requires target { target ≡ max at.need (length (H.state host.old).own) }
     requires room { length steps.old + 7 ≤ 24 }
-    ensures did { Does (TurnGives (call at (H.state host.old) (R.store repo.new).list)
-        (seen result))
+    ensures did { (missing : Option KeyId) → Does (TurnGives (call at missing
+        (H.state host.old) (R.store repo.new).list) (seen result))
         (books steps.old (H.state host.old) (R.store repo.old) (D.draws draw.old))
         (books steps.new (H.state host.new) (R.store repo.new) (D.draws draw.new)) }
     ensures steady { Steady (H.state host.old) (H.state host.new) }
@@ -146,8 +150,8 @@ fn find<W, H: Host<W>, R: Repo<W>, D: Draw>(
     requires free { (H.state host.old).held ≡ false }
     requires target { target ≡ max at.need (length (H.state host.old).own) }
     requires room { steps.old ≡ [] }
-    ensures did { Does (PathGives (call at (H.state host.old) (R.store repo.new).list)
-        (seen result))
+    ensures did { (missing : Option KeyId) → Does (PathGives (call at missing
+        (H.state host.old) (R.store repo.new).list) (seen result))
         (books steps.old (H.state host.old) (R.store repo.old) (D.draws draw.old))
         (books steps.new (H.state host.new) (R.store repo.new) (D.draws draw.new)) }
     ensures steady { Steady (H.state host.old) (H.state host.new) }
@@ -205,11 +209,16 @@ fn find<W, H: Host<W>, R: Repo<W>, D: Draw>(
 //     extended, give the turn back, and answer the refusal.
 // 11. The pass has seen the list of the ring that answers. Where that is shorter than what was
 //     needed, the answer says so.
+// 12. Where a key is named that the ring which would answer doesn't hold, within two minutes of the
+//     node's opening, and the call has read nothing, it makes one more try: it tries to take the
+//     turn. Where somebody else holds it, answer by the ring at hand. With the turn, ask the want
+//     number and look once more and, whether or not the ring is enough, go on with step 6.
 //
 // Want of memory while the turn is held gives it back, and publishes nothing more.
 
 /// A ring that isn't older than what the pass has seen, with as many elements as needed. It is made
-/// by a lawful path, whose steps are recorded.
+/// by a lawful path, whose steps are recorded. Where it should hold the key `missing` and doesn't,
+/// a young node reads once more for it; whether it then holds the key is for the caller to see.
 pub fn ring_for<W, H: Host<W>, R: Repo<W>, D: Draw>(
     w: &mut W,
     alloc: Global,
@@ -217,12 +226,13 @@ pub fn ring_for<W, H: Host<W>, R: Repo<W>, D: Draw>(
     repo: &mut R,
     draw: &mut D,
     at: At,
+    missing: Option<KeyId>,
     steps: &mut StepList,
 ) -> Result<Ring, NodeError>
     requires moment { at.now ≤ LAST }
     requires free { (H.state host.old).held ≡ false }
     requires room { steps.old ≡ [] }
-    ensures path { Does (CallPath (call at (H.state host.old) (R.store repo.new).list)
+    ensures path { Does (CallPath (call at missing (H.state host.old) (R.store repo.new).list)
         (seen result) (H.state host.new).own)
         (books [] (H.state host.old) (R.store repo.old) (D.draws draw.old))
         (books steps.new (H.state host.new) (R.store repo.new) (D.draws draw.new)) }
@@ -234,7 +244,8 @@ pub fn ring_for<W, H: Host<W>, R: Repo<W>, D: Draw>(
     ensures few { length steps.new ≤ 24 }
 {
     let target = at.need.max(host.own().len());
-    let ring = find(w, alloc, host, repo, draw, at, target, steps)?;
+    let found = find(w, alloc, host, repo, draw, at, target, steps)?;
+    let ring = settle(w, alloc, host, repo, draw, at, missing, found, steps)?;
     let list = ring.list().share()?;
     host.keep(list);
     steps.push(Step::Answer);

@@ -9,6 +9,7 @@ mod gather;
 mod host;
 mod open;
 mod place;
+mod settle;
 mod sight;
 mod solo;
 

@@ -5,5 +5,5 @@ mod Everywhere
 mod Forms
 mod Heads
 mod Sealing
-mod Taken
+pub mod Taken
 mod Texts

@@ -1,5 +1,5 @@
 -- The opening of a run's node, and what is counted where it is refused.
-use Rattle.std.proofs.Common.{◌≡◌, ℕ, min, Bool, true, false, None, List, [], ◌∷◌, Option, Result, Ok, Err, refl, sym, ap, subst, ◌∙◌}
+use Rattle.std.proofs.Common.{◌≡◌, ℕ, min, Bool, true, false, None, List, [], Option, Result, Err, refl, ap, subst, ◌∙◌}
 use Rattle.dp_base.specs.declared.ticks.TheConstants.{LAST}
 use Rattle.dp_base.specs.Clocks.{ShowsMoment}
 use Rattle.dp_base.specs.Counts.{more, one_more}

@@ -1,6 +1,6 @@
 -- What a run of pipe says: a node of one thread is opened at the clock's first moment, and the
 -- requests of the input are served.
-use Rattle.std.specs.Prelude.{◌≡◌, ℕ, ◌*◌, min, Bool, true, List, [], Option, None, Result, Ok, Err}
+use Rattle.std.specs.Prelude.{◌≡◌, ℕ, ◌*◌, min, Bool, true, List, [], length, Option, None, Result, Ok, Err}
 use Rattle.dp_base.specs.declared.alg.Alg.TheVariants.{Cbc256}
 use Rattle.dp_base.specs.declared.alg.AesSize.TheVariants.{A256}
 use Rattle.dp_base.specs.declared.ticks.TheConstants.{LAST, TICKS_PER_DAY}
@@ -19,7 +19,9 @@ use Rattle.dp_node.specs.Calls.{terms}
 use Rattle.dp_node.specs.Opening.{Opens, first_facts}
 use Rattle.dp_session.specs.declared.status.Status.{Status}
 use Rattle.dp_session.specs.declared.status.Status.TheVariants as status
+use Rattle.dp_session.specs.Fresh.{AreFresh, AreCountedBy}
 use Rattle.dp_session.specs.Serving.{state}
+use Rattle.dp_session.specs.Shut.{AreShut}
 use Rattle.dp_session.specs.Session.{IsSession, outside}
 use Rattle.dp_server.specs.declared.outcome.Outcome.{Outcome}
 
@@ -61,19 +63,26 @@ status_of refused.StoreFault = status.StoreFault
 status_of refused.DrawFault = status.DrawFault
 status_of refused.Memory = status.NoMemory
 
+-- a session of the opened node, under an application name: all that is said of one
+pub record IsServed (app : List ℕ) (host : HostState) (end : Outcome) (mid new : Around) : Type 0 where
+  pub host_after : HostState
+  pub session : IsSession app end.status end.bad
+      (outside mid.input mid.output (state host mid.store mid.draws mid.moments) [] [])
+      (outside new.input new.output (state host_after new.store new.draws new.moments) end.trace.entries end.trace.list)
+  pub fresh : AreFresh (length host.own) end.trace.entries
+  pub counted : AreCountedBy end.trace.entries (state host mid.store mid.draws mid.moments) (state host_after new.store new.draws new.moments)
+  pub shut : (bodies : List (List ℕ)) → AreShut app bodies end.trace.entries end.trace.list
+
 -- what follows the opening: a session of the node; or nothing
-abbrev pub Follows : Result HostState OpenRefused → Outcome → Around → Around → Type 0
-Follows (Ok host) end mid new =
-    (host' : HostState) × IsSession end.status end.bad
-    (outside mid.input mid.output (state host mid.store mid.draws mid.moments) [] [])
-    (outside new.input new.output (state host' new.store new.draws new.moments) end.trace.entries end.trace.list)
-Follows (Err why) end mid new =
+abbrev pub Follows : List ℕ → Result HostState OpenRefused → Outcome → Around → Around → Type 0
+Follows app (Ok host) end mid new = IsServed app host end mid new
+Follows app (Err why) end mid new =
     (new ≡ mid) × (end.status ≡ status_of why) × (end.bad ≡ None)
     × (end.trace.entries ≡ []) × (end.trace.list ≡ [])
 
--- a run of pipe
-pub record Pipes (auto : Bool) (end : Outcome) (old new : Around) : Type 0 where
+-- a run of pipe, with keys made automatically or not, under an application name
+pub record Pipes (auto : Bool) (app : List ℕ) (end : Outcome) (old new : Around) : Type 0 where
   pub opened : Result HostState OpenRefused
   pub mid : Around
   pub opening : IsOpening auto opened old mid
-  pub follows : Follows opened end mid new
+  pub follows : Follows app opened end mid new

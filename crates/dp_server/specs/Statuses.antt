@@ -1,4 +1,5 @@
--- The statuses of show (docs/FORMATS.md, "Statuses").
+-- The statuses of runs (docs/FORMATS.md, "Statuses").
+use Rattle.std.specs.Prelude.{◌≡◌, ◌<◌, ◌-◌, ◌^◌, ℕ}
 use Rattle.dp_session.specs.declared.status.Status.{Status}
 use Rattle.dp_session.specs.declared.status.Status.TheVariants.{Done, BadWords, BadInput, ReadFault, WriteFault, StoreFault, DrawFault, NoMemory, Spent}
 
@@ -37,3 +38,7 @@ IsShowStatus StoreFault = ⊥
 IsShowStatus DrawFault = ⊥
 IsShowStatus NoMemory = Unit {0}
 IsShowStatus Spent = ⊥
+
+-- a count didn't rise, and isn't at its end, where it can't
+abbrev pub StoodStill : ℕ → ℕ → Type 0
+StoodStill old new = (new ≡ old) × (old < 2 ^ 64 - 1)

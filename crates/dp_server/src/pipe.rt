@@ -5,13 +5,15 @@ ghost use Rattle.dp_base.specs.Counts.{one_more};
 ghost use Rattle.dp_session.specs.declared.session.TheConstants.{MAX_REQUESTS};
 ghost use Rattle.dp_session.specs.declared.status.Status.TheVariants.{BadWords, BadInput, ReadFault, WriteFault, StoreFault, DrawFault, Spent};
 ghost use Rattle.dp_session.specs.Frames.{AreWhole};
+ghost use Rattle.dp_session.specs.declared.app.TheConstants.{MAX_APP};
 ghost use Rattle.dp_server.specs.Pipe.{AreStandard, Pipes, around, status_of};
 
 use crate::outcome::Outcome;
 use default_key::Options;
 use dp_base::{Clock, Draw, LAST, Sink, Source};
+use dp_encryptor::HeaderTable;
 use dp_node::{OpenRefused, Solo};
-use dp_session::{Status, serve_session};
+use dp_session::{AppName, MAX_APP, Setup, Status, serve_session};
 use repo_keeper::Repo;
 use std::alloc::Global;
 
@@ -41,13 +43,15 @@ fn status_of(why: OpenRefused) -> Status
 pub(crate) fn pipe<R: Repo<()>, D: Draw, C: Clock, I: Source, O: Sink>(
     alloc: Global,
     auto: bool,
+    app: &str,
     repo: &mut R,
     draw: &mut D,
     clock: &mut C,
     input: &mut I,
     output: &mut O,
 ) -> Outcome
-    ensures pipes { Pipes auto result
+    requires { length app.now ≤ MAX_APP }
+    ensures pipes { Pipes auto app.now result
         (around (I.left input.old) (O.written output.old) (R.store repo.old) (D.draws draw.old)
         (C.moments clock.old))
         (around (I.left input.new) (O.written output.new) (R.store repo.new) (D.draws draw.new)
@@ -72,12 +76,27 @@ pub(crate) fn pipe<R: Repo<()>, D: Draw, C: Clock, I: Source, O: Sink>(
         → (D.draws draw.new).faults ≡ one_more (D.draws draw.old).faults }
 {
     let now = clock.now().min(LAST);
-    match Solo::open(alloc, repo, draw, now, standard(auto)) {
-        Ok(solo) => {
-            let mut solo = solo;
-            let end = serve_session(&mut (), alloc, &mut solo, repo, draw, clock, input, output);
-            Outcome::of_session(end)
-        }
-        Err(why) => Outcome::of(alloc, status_of(why)),
-    }
+    let options = standard(auto);
+    let mut solo = match Solo::open(alloc, repo, draw, now, options) {
+        Ok(solo) => solo,
+        Err(why) => return Outcome::of(alloc, status_of(why)),
+    };
+    let setup = match AppName::new(alloc, app) {
+        Ok(app) => Setup { options, app },
+        Err(_) => return Outcome::of(alloc, Status::NoMemory),
+    };
+    let headers = HeaderTable::new(alloc);
+    let end = serve_session(
+        &mut (),
+        alloc,
+        &mut solo,
+        repo,
+        draw,
+        clock,
+        &setup,
+        &headers,
+        input,
+        output,
+    );
+    Outcome::of_session(end)
 }

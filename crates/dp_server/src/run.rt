@@ -1,15 +1,15 @@
 //! The top call.
 
-ghost use Rattle.std.specs.Prelude.{◌≡◌, ◌≢◌, ◌≤◌, ◌+◌, ◌↔◌, ℕ, Bool, [], length, IsSome, IfSome, map, string_bytes};
+ghost use Rattle.std.specs.Prelude.{◌≡◌, ◌≢◌, ◌≤◌, ◌+◌, ◌↔◌, ◌⊎◌, ℕ, Bool, List, [], length, IsSome, IfSome, map, string_bytes};
 ghost use Rattle.dp_base.specs.Counts.{one_more};
 ghost use Rattle.dp_base.specs.Transfer.{TakesAtMost, Writes, WritesFront};
 ghost use Rattle.dp_session.specs.declared.session.TheConstants.{MAX_REQUESTS};
-ghost use Rattle.dp_session.specs.declared.status.Status.TheVariants.{Done, BadWords, BadInput, ReadFault, WriteFault, StoreFault, DrawFault, Spent};
+ghost use Rattle.dp_session.specs.declared.status.Status.TheVariants.{Done, BadWords, BadInput, ReadFault, WriteFault, StoreFault, DrawFault, NoMemory, Spent};
 ghost use Rattle.dp_session.specs.Frames.{AreWhole};
 ghost use Rattle.dp_server.specs.declared.transfer.TheConstants.{MAX_INPUT};
 ghost use Rattle.dp_server.specs.Words.{IsShow, IsPipe};
 ghost use Rattle.dp_server.specs.Commands.{IsLawful};
-ghost use Rattle.dp_server.specs.Statuses.{IsAccepting, IsRefusing};
+ghost use Rattle.dp_server.specs.Statuses.{IsAccepting, IsRefusing, StoodStill};
 ghost use Rattle.dp_server.specs.Outcomes.{IsBadPlace};
 ghost use Rattle.dp_server.specs.Show.{IsListed, IsRefused, Shows};
 ghost use Rattle.dp_server.specs.Pipe.{Pipes, around};
@@ -17,7 +17,7 @@ ghost use Rattle.dp_server.specs.Pipe.{Pipes, around};
 use crate::outcome::Outcome;
 use crate::pipe::pipe;
 use crate::show::show;
-use crate::words::{Command, command_of};
+use crate::words::{Command, PipeOptions, command_of};
 use dp_base::{Clock, Draw, Sink, Source};
 use dp_session::Status;
 use repo_keeper::Repo;
@@ -74,7 +74,8 @@ pub fn run<R: Repo<()>, D: Draw, C: Clock, I: Source, O: Sink>(
         (result.trace.entries ≡ []) × (result.trace.list ≡ []) }
 
     // pipe: a node is opened by a lawful flight, and its session is served.
-    ensures pipe { (auto : Bool) → IsPipe (map string_bytes words.now) auto → Pipes auto result
+    ensures pipe { (auto : Bool) (app : List ℕ) → IsPipe (map string_bytes words.now) auto app
+        → Pipes auto app result
         (around (I.left input.old) (O.written output.old) (R.store repo.old) (D.draws draw.old)
         (C.moments clock.old))
         (around (I.left input.new) (O.written output.new) (R.store repo.new) (D.draws draw.new)
@@ -82,9 +83,19 @@ pub fn run<R: Repo<()>, D: Draw, C: Clock, I: Source, O: Sink>(
 
     // pipe: whole frames, not too many, are never refused; so where nothing failed, all was read and
     // written, unless memory wanted.
-    ensures whole { (auto : Bool) → IsPipe (map string_bytes words.now) auto
+    ensures whole { (auto : Bool) (app : List ℕ) → IsPipe (map string_bytes words.now) auto app
         → IfSome (I.left input.old) (λ bytes. AreWhole MAX_REQUESTS bytes
         → (result.status ≢ BadInput) × (result.status ≢ Spent)) }
+
+    // pipe: so where no count of faults rose, whole frames, not too many, are all answered, and the
+    // input is read to its end; or memory wanted.
+    ensures complete { (auto : Bool) (app : List ℕ) → IsPipe (map string_bytes words.now) auto app
+        → IfSome (I.left input.old) (λ bytes. AreWhole MAX_REQUESTS bytes
+        → StoodStill (I.faults input.old) (I.faults input.new)
+        → StoodStill (O.faults output.old) (O.faults output.new)
+        → StoodStill (R.store repo.old).faults (R.store repo.new).faults
+        → StoodStill (D.draws draw.old).faults (D.draws draw.new).faults
+        → (result.status ≡ Done) ⊎ (result.status ≡ NoMemory)) }
     ensures few { length result.trace.entries ≤ MAX_REQUESTS }
     ensures spent { result.status ≡ Spent → length result.trace.entries ≡ MAX_REQUESTS }
 
@@ -111,7 +122,10 @@ pub fn run<R: Repo<()>, D: Draw, C: Clock, I: Source, O: Sink>(
         Some(Command::Show { moment }) => {
             Outcome::of_show(alloc, show(alloc, moment, input, output))
         }
-        Some(Command::Pipe { auto }) => pipe(alloc, auto, repo, draw, clock, input, output),
+        Some(Command::Pipe { options }) => {
+            let PipeOptions { auto, app } = options;
+            pipe(alloc, auto, app, repo, draw, clock, input, output)
+        }
         None => Outcome::of(alloc, Status::BadWords),
     }
 }

@@ -1,4 +1,5 @@
 use super::*;
+use crate::words::{Command, PipeOptions, command_of};
 use dp_base::{KeyId, MemClock, MemDraw, MemSink, MemSource};
 use dp_session::{BadPlace, BadWhy};
 use key_elements::{Element, ElementRefused, KeyRecord, Reason, encode};
@@ -56,6 +57,14 @@ fn empty_repo(alloc: Global) -> OwnRepo<MemKeeper> {
     OwnRepo::new(alloc, MemKeeper::new(ElementList::empty(), Vec::new(alloc)))
 }
 
+fn strings(alloc: Global, texts: &[&str]) -> Result<Vec<String>, Fail> {
+    let mut words = Vec::new(alloc);
+    for text in texts {
+        words.push(String::from_str(alloc, text)?)?;
+    }
+    Ok(words)
+}
+
 // How the run ended, and the text written.
 fn answer(
     alloc: Global,
@@ -63,10 +72,7 @@ fn answer(
     bytes: Vec<u8>,
     outside: &Outside<'_>,
 ) -> Result<(Outcome, String), Fail> {
-    let mut words = Vec::new(alloc);
-    for text in texts {
-        words.push(String::from_str(alloc, text)?)?;
-    }
+    let words = strings(alloc, texts)?;
     let piece = outside.piece.max(1);
     let mut input = MemSource::new(bytes, piece, outside.fail_reads.to_vec(alloc)?);
     let mut output = MemSink::new(alloc, piece, outside.fail_writes.to_vec(alloc)?);
@@ -174,7 +180,7 @@ fn choices(rt: HostRuntime) -> Result<(), Fail> {
 #[test]
 fn bad_words(rt: HostRuntime) -> Result<(), Fail> {
     let alloc = rt.alloc();
-    let table: [&[&str]; 9] = [
+    let table: [&[&str]; 31] = [
         &[],
         &["show"],
         &["--help"],
@@ -184,11 +190,82 @@ fn bad_words(rt: HostRuntime) -> Result<(), Fail> {
         &["show", "3155378975999999999 "],
         &["show", "3155378976000000000"],
         &["show", "1", "1"],
+        &["show", "1", "--app", "x"],
+        &["pipe", "x"],
+        &["pipe", ""],
+        &["pipe", "--auto"],
+        &["pipe", "--"],
+        &["pipe", "--no-auto", "--no-auto"],
+        &["pipe", "--no-auto", "x"],
+        &["pipe", "--no-aut"],
+        &["pipe", "--no-auto="],
+        &["pipe", "--app"],
+        &["pipe", "--app", ""],
+        &["pipe", "--app", "-"],
+        &["pipe", "--app", "-x"],
+        &["pipe", "--app", "--no-auto"],
+        &["pipe", "--app", "x", "y"],
+        &["pipe", "--app", "x", "--app", "x"],
+        &["pipe", "--app", "x", "--app", "y", "--no-auto"],
+        &["pipe", "--no-auto", "--app"],
+        &["pipe", "--no-auto", "--app", "x", "--no-auto"],
+        &["pipe", "--app=x"],
+        &["pipe", "--ap", "x"],
+        &["--app", "x", "pipe"],
     ];
     for words in table {
         let (end, text) = answer(alloc, words, one_key(alloc, 3)?, &WELL)?;
         assert_eq!(rt; end.status, Status::BadWords, "{words:?}");
         assert_eq!(rt; text.as_str(), "", "{words:?}");
+    }
+    Ok(())
+}
+
+// docs/FORMATS.md, "Words": the options of `pipe` in any order.
+#[test]
+fn options(rt: HostRuntime) -> Result<(), Fail> {
+    let alloc = rt.alloc();
+    let table: [(&[&str], bool, &str); 8] = [
+        (&["pipe"], true, ""),
+        (&["pipe", "--no-auto"], false, ""),
+        (&["pipe", "--app", "x"], true, "x"),
+        (&["pipe", "--app", "x", "--no-auto"], false, "x"),
+        (&["pipe", "--no-auto", "--app", "x"], false, "x"),
+        (&["pipe", "--app", "pipe"], true, "pipe"),
+        (&["pipe", "--app", " -x=--app"], true, " -x=--app"),
+        (&["pipe", "--app", "caf\u{e9}"], true, "caf\u{e9}"),
+    ];
+    for (texts, auto, app) in table {
+        let words = strings(alloc, texts)?;
+        let options = PipeOptions { auto, app };
+        assert_eq!(rt;
+            command_of(words.as_slice()),
+            Some(Command::Pipe { options }),
+            "{texts:?}"
+        );
+    }
+    let words = strings(alloc, &["show", "7"])?;
+    assert_eq!(rt;
+        command_of(words.as_slice()),
+        Some(Command::Show { moment: 7 })
+    );
+    Ok(())
+}
+
+// docs/FORMATS.md, "Words": a name has at most 256 bytes.
+#[test]
+fn long_names(rt: HostRuntime) -> Result<(), Fail> {
+    let alloc = rt.alloc();
+    for (count, lawful) in [(256, true), (257, false)] {
+        let name = String::from_utf8(Vec::from_elem(alloc, b'n', count)?)
+            .ok()
+            .ok_or("text")?;
+        let words = strings(alloc, &["pipe", "--app", name.as_str()])?;
+        assert_eq!(rt;
+            command_of(words.as_slice()).is_some(),
+            lawful,
+            "{count} bytes"
+        );
     }
     Ok(())
 }
@@ -289,9 +366,7 @@ fn session(
     keeps: &[u64],
     draws: &[u64],
 ) -> Result<(Outcome, Vec<u8>), Fail> {
-    let mut words = Vec::new(alloc);
-    words.push(String::from_str(alloc, "pipe")?)?;
-    words.push(String::from_str(alloc, "--no-auto")?)?;
+    let words = strings(alloc, &["pipe", "--no-auto"])?;
     let keeper = MemKeeper::new(ElementList::empty(), keeps.to_vec(alloc)?);
     let mut repo = OwnRepo::new(alloc, keeper);
     let mut draw = MemDraw::new(Vec::from_elem(alloc, 0, 1_024)?, draws.to_vec(alloc)?);

@@ -6,3 +6,6 @@ pub mod Turns
 pub mod Sessions
 pub mod Freshness
 pub mod Whole
+pub mod Responses
+pub mod Shut
+pub mod Unsealed

@@ -10,7 +10,8 @@ use Rattle.key_ring.specs.Ring.{RingOf}
 use Rattle.repo_keeper.specs.Made.{key_of_draw}
 use Rattle.ring_world.specs.Course.{Course}
 use Rattle.ring_world.specs.Flight.{Refusal}
-use Rattle.ring_world.specs.Path.{Call, CallPath, complete, cut_off, path_end, answered, own_after}
+use Rattle.ring_world.specs.Path.{Call}
+use Rattle.ring_world.specs.Way.{CallPath, complete, cut_off, way_end, answered, own_after}
 use Rattle.ring_world.specs.Placing as placing
 use Rattle.ring_world.specs.Placing.{Asked, Placing, Placed, Undrawn, Unplaced, Overfull, Receded, PlacePath, place_of, place_end, place_course}
 use Rattle.dp_node.specs.Places.{EndsWithKey}
@@ -26,7 +27,7 @@ own_of need own (Err why) r e = cc
 
 -- the pass has then seen the list of the ring that answers
 pub own_by_ring : (c : Call) (r : RingOf) (own : List Element) (d : Course) → CallPath c (Ok r) own d → own ≡ r.list
-own_by_ring c r own d (complete p is line e o s) = o ∙ own_of c.need c.own (path_end c p) r e
+own_by_ring c r own d (complete w is line e o s) = o ∙ own_of c.need c.own (way_end c w) r e
 own_by_ring c r own d (cut_off p is e o s) = cc
 
 -- the element that was placed stands last in the list that the pass has then seen

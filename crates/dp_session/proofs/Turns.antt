@@ -18,14 +18,16 @@ use Rattle.dp_base.specs.declared.want.Memory.{Memory}
 use Rattle.key_elements.specs.Lists.{Extends}
 use Rattle.ring_world.specs.declared.step.Step.{Step}
 use Rattle.dp_wire.specs.Reading.{request_at}
-use Rattle.dp_session.specs.declared.answer.Answered.{Answered}
-use Rattle.dp_session.specs.Serving.{State, state, Serves, Served, before, after, need_of, IsListOf}
+use Rattle.dp_session.specs.declared.response.Response.{Response}
+use Rattle.dp_session.specs.Needs.{need_of}
+use Rattle.dp_session.specs.Replies.{reply_to}
+use Rattle.dp_session.specs.Serving.{State, state, Serves, Served, before, after, IsListOf}
 use Rattle.dp_session.specs.Turns.{turn_of, list_after, reply_bytes, IsTurn}
 use Rattle.dp_session.specs.Session.{outside, IsListAfter, OneServed, OneMore}
 
-pub answered_turn : (bytes : List ℕ) (now need seen : ℕ) (steps : List Step) (drawn : List ℕ) (old new : State) (r : Result Answered Memory) → Served (request_at bytes) now r drawn (before old) (after steps drawn new) → need ≡ need_of (request_at bytes) → seen ≡ length old.host.own → Extends new.host.own old.host.own
-    → IsTurn bytes now (turn_of r now need seen steps drawn) old new
-answered_turn bytes now need seen steps drawn old new (Ok a) s n l grows = record {
+pub answered_turn : (app bytes : List ℕ) (now need seen : ℕ) (steps : List Step) (drawn : List ℕ) (old new : State) (r : Result Response Memory) → Served app (request_at bytes) now r drawn (before old) (after steps drawn new) → need ≡ need_of (request_at bytes) → seen ≡ length old.host.own → Extends new.host.own old.host.own
+    → IsTurn app bytes now (turn_of r now need seen steps drawn) old new
+answered_turn app bytes now need seen steps drawn old new (Ok a) s n l grows = record {
   moment = refl;
   need = inl n;
   seen = l;
@@ -34,7 +36,7 @@ answered_turn bytes now need seen steps drawn old new (Ok a) s n l grows = recor
   reply = s.1;
   list = s.2;
 }
-answered_turn bytes now need seen steps drawn old new (Err w) s n l grows = record {
+answered_turn app bytes now need seen steps drawn old new (Err w) s n l grows = record {
   moment = refl;
   need = inl n;
   seen = l;
@@ -55,10 +57,10 @@ abbrev Writing : Type 1
 Writing = Option (List ℕ) → Option (List ℕ) → List ℕ → Type 0
 
 -- a turn whose entry was kept, and whose reply was written
-pub served_one : (writes : Writing) (bytes : List ℕ) (h h' : HostState) (s s' : Store) (d d' : DrawState) (m m' : Option (List ℕ)) (moment now : ℕ) (t : Turn) (o o' : Option (List ℕ)) (es es' : List Entry) (l l' : List Element)
-    → ShowsMoment m m' moment → now ≡ min moment LAST → IsTurn bytes now t (state h s d None) (state h' s' d' None) → es' ≡ es ++ t.entry ∷ [] → l' ≡ list_after t.list l → writes o o' (reply_bytes t.reply)
-    → OneServed writes bytes (outside None o (state h s d m) es l) (outside None o' (state h' s' d' m') es' l')
-served_one writes bytes h h' s s' d d' m m' moment now t o o' es es' l l' shows at is added list written = record {
+pub served_one : (app : List ℕ) (writes : Writing) (bytes : List ℕ) (h h' : HostState) (s s' : Store) (d d' : DrawState) (m m' : Option (List ℕ)) (moment now : ℕ) (t : Turn) (o o' : Option (List ℕ)) (es es' : List Entry) (l l' : List Element)
+    → ShowsMoment m m' moment → now ≡ min moment LAST → IsTurn app bytes now t (state h s d None) (state h' s' d' None) → es' ≡ es ++ t.entry ∷ [] → l' ≡ list_after t.list l → writes o o' (reply_bytes t.reply)
+    → OneServed app writes bytes (outside None o (state h s d m) es l) (outside None o' (state h' s' d' m') es' l')
+served_one app writes bytes h h' s s' d d' m m' moment now t o o' es es' l l' shows at is added list written = record {
   entry = t.entry;
   added = added;
   is = record {
@@ -71,7 +73,7 @@ served_one writes bytes h h' s s' d d' m m' moment now t o o' es es' l l' shows 
     grows = is.grows;
   };
   list = subst (IsListAfter t.entry.used l h'.own) (sym list) (list_is t.entry.used t.list l h'.own is.list);
-  written = subst (writes o o') is.reply written;
+  written = subst (writes o o') (is.reply ∙ ap (λ (n : ℕ). frame (reply_to app n (request_at bytes) t.entry.used t.entry.drawn h'.own)) (sym is.moment)) written;
 }
 
 pub done : {A E : Type 0} {P Q : Type 0} (r : Result A E) → OnOk r P → (P → Q) → OnOk r Q
@@ -87,9 +89,9 @@ unfolding frame
 length-frame bytes = length-append (to_be_bytes w32 (length bytes)) bytes
 
 -- a frame that was read, and then served
-pub one_more : (writes : Writing) (i i' o o' : Option (List ℕ)) (s s' : State) (es0 es es' : List Entry) (l l' : List Element) (len n : ℕ) (bytes : List ℕ) → IsBodyLen (length bytes) → len ≡ length bytes → Consumes i i' (frame bytes) → n ≡ 4 + len → es ≡ es0
-    → OneServed writes bytes (outside None o s es l) (outside None o' s' es' l') → OneMore writes (outside i o s es0 l) (outside i' o' s' es' l') n
-one_more writes i i' o o' s s' es0 es es' l l' len n bytes fits same read count kept one = record {
+pub one_more : (app : List ℕ) (writes : Writing) (i i' o o' : Option (List ℕ)) (s s' : State) (es0 es es' : List Entry) (l l' : List Element) (len n : ℕ) (bytes : List ℕ) → IsBodyLen (length bytes) → len ≡ length bytes → Consumes i i' (frame bytes) → n ≡ 4 + len → es ≡ es0
+    → OneServed app writes bytes (outside None o s es l) (outside None o' s' es' l') → OneMore app writes (outside i o s es0 l) (outside i' o' s' es' l') n
+one_more app writes i i' o o' s s' es0 es es' l l' len n bytes fits same read count kept one = record {
   body = bytes;
   fits = fits;
   read = read;

@@ -67,9 +67,9 @@ no_frames [] e = refl
 no_frames (m ∷ more) e = absurd (omega (arith, e))
 
 -- a session over whole frames that aren't too many is never refused its input, and never spent
-pub whole_input : (st : Status) (bad : Option BadPlace) (old new : Outside) → IsSession st bad old new → (st ≡ status.BadInput → IsSome bad) → (st ≡ status.Spent → length new.entries ≡ MAX_REQUESTS)
+pub whole_input : (app : List ℕ) (st : Status) (bad : Option BadPlace) (old new : Outside) → IsSession app st bad old new → (st ≡ status.BadInput → IsSome bad) → (st ≡ status.Spent → length new.entries ≡ MAX_REQUESTS)
     → IfSome old.input (λ bytes. AreWhole MAX_REQUESTS bytes → (st ≡ status.BadInput → ⊥) × (st ≡ status.Spent → ⊥))
-whole_input st bad old new s named spent = over old.input refl
+whole_input app st bad old new s named spent = over old.input refl
   where
     over : (input : Option (List ℕ)) → old.input ≡ input → IfSome input (λ bytes. AreWhole MAX_REQUESTS bytes → (st ≡ status.BadInput → ⊥) × (st ≡ status.Spent → ⊥))
     over None e = tt

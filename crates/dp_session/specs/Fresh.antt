@@ -5,6 +5,8 @@ use Rattle.dp_base.specs.Counts.{more}
 use Rattle.ring_world.specs.declared.step.Step.{Step}
 use Rattle.ring_world.specs.Flight.{Refusal, StoreFault, DrawFault, Shorter, Behind, Forked, Full, BadDates, Memory}
 use Rattle.dp_node.specs.Books.{tally, draws_failed}
+use Rattle.dp_node.specs.declared.error.NodeError.{NodeError}
+use Rattle.dp_node.specs.declared.error.NodeError.TheVariants as errors
 use Rattle.dp_node.specs.Gather.{refusal}
 use Rattle.dp_session.specs.declared.trace.Entry.{Entry}
 use Rattle.dp_session.specs.declared.trace.Used.{Used}
@@ -22,17 +24,32 @@ AreFresh seen [] = Unit {0}
 AreFresh seen (e ∷ es) =
     (seen ≤ e.seen) × IsFresh e × AreFresh (max e.seen (front_of e.used)) es
 
--- steps that count what they were refused for: a fault of the repository or of the draw, a repository
--- with fewer elements than it had, or a full one
+-- a refusal for a draw that failed
+abbrev pub draw_fault : NodeError → ℕ
+draw_fault errors.DrawFault = 1
+draw_fault _ = 0
+
+-- how many calls of the draw failed: those of the steps, or else the one for a payload
+abbrev pub draw_faults : Used → List Step → ℕ
+draw_faults (used.Refused why) steps = max (draw_fault why) (draws_failed steps)
+draw_faults _ steps = draws_failed steps
+
+-- steps that count what they were refused for: a fault of the repository, a repository with fewer
+-- elements than it had, or a full one; a fault of the draw is counted as said above
 abbrev pub AreCounted : Refusal → List Step → Type 0
 AreCounted StoreFault steps = 1 ≤ (tally steps).faults
-AreCounted DrawFault steps = 1 ≤ draws_failed steps
+AreCounted DrawFault steps = Unit {0}
 AreCounted (Shorter had got) steps = 1 ≤ (tally steps).shorts
 AreCounted (Behind have need) steps = Unit {0}
 AreCounted (Forked at left right) steps = Unit {0}
 AreCounted (Full count) steps = 1 ≤ (tally steps).fulls
 AreCounted BadDates steps = Unit {0}
 AreCounted Memory steps = Unit {0}
+
+-- whether no memory was found: then a draw for a payload may have failed, and nobody was told
+abbrev pub no_memory : Used → ℕ
+no_memory used.NoMemory = 1
+no_memory _ = 0
 
 abbrev pub IsCounted : Used → List Step → Type 0
 IsCounted (used.Ring front made_at) steps = Unit {0}
@@ -46,12 +63,14 @@ abbrev pub total : (Entry → ℕ) → List Entry → ℕ
 total f [] = 0
 total f (e ∷ es) = f e + total f es
 
--- the counts of repository and draw rose by what the steps of the entries say, its places are those
+-- the counts of repository and draw rose by what the steps of the entries say, that of the draw also for
+-- the payloads, and once more at the most for each request that found no memory; the places are those
 -- of their appends, and each refusal that has a count has it
 pub record AreCountedBy (es : List Entry) (old new : State) : Type 0 where
   pub faults : new.store.faults ≡ more (total (λ e. (tally e.steps).faults) es) old.store.faults
   pub shorts : new.store.shorts ≡ more (total (λ e. (tally e.steps).shorts) es) old.store.shorts
   pub fulls : new.store.fulls ≡ more (total (λ e. (tally e.steps).fulls) es) old.store.fulls
   pub mine : new.store.mine ≡ old.store.mine ++ flat_map (λ e. (tally e.steps).places) es
-  pub draws : new.draws.faults ≡ more (total (λ e. draws_failed e.steps) es) old.draws.faults
+  pub draws : (k : ℕ) × (k ≤ total (λ e. no_memory e.used) es)
+      × (new.draws.faults ≡ more (total (λ e. draw_faults e.used e.steps) es + k) old.draws.faults)
   pub refused : AllByRecursion (λ e. IsCounted e.used e.steps) es

@@ -1,20 +1,22 @@
 -- What one request does: to the pass, to the repository and to the draw.
-use Rattle.std.specs.Prelude.{◌≡◌, ◌≢◌, ◌⊎◌, ℕ, ◌<◌, min, true, false, List, [], length, Option, Some, None, Result, Ok, Err}
-use Rattle.dp_base.specs.declared.ticks.TheConstants.{LAST, MAX_TICKS}
+use Rattle.std.specs.Prelude.{◌≡◌, ◌≢◌, ◌⊎◌, ℕ, min, true, false, List, [], ◌++◌, length, Option, Some, None, Result, Ok, Err}
+use Rattle.dp_base.specs.declared.ticks.TheConstants.{LAST}
 use Rattle.dp_base.specs.Clocks.{ShowsMoment}
-use Rattle.dp_base.specs.Draws.{DrawState}
+use Rattle.dp_base.specs.Draws.{DrawState, Draws}
 use Rattle.dp_base.specs.declared.want.Memory.{Memory}
 use Rattle.key_elements.specs.declared.element.Element.{Element}
 use Rattle.key_elements.specs.declared.element.Element.TheVariants as elements
 use Rattle.key_elements.specs.Lists.{Extends}
 use Rattle.key_ring.specs.Ring.{RingOf}
-use Rattle.repo_keeper.specs.Made.{key_of_draw, AreBadDates}
+use Rattle.repo_keeper.specs.Made.{key_of_draw}
 use Rattle.repo_keeper.specs.Store.{Store}
 use Rattle.ring_world.specs.declared.step.Step.{Step}
 use Rattle.ring_world.specs.Flight.{Refusal}
-use Rattle.ring_world.specs.Path.{CallPath}
+use Rattle.ring_world.specs.Way.{CallPath}
 use Rattle.ring_world.specs.Placing.{Asked, PlacePath}
 use Rattle.dp_node.specs.declared.error.NodeError.TheVariants as errors
+use Rattle.dp_node.specs.declared.call.At.{At}
+use Rattle.dp_node.specs.declared.error.NodeError.{NodeError}
 use Rattle.dp_node.specs.HostState.{HostState}
 use Rattle.dp_node.specs.Books.{Books, books, Does}
 use Rattle.dp_node.specs.Calls.{call}
@@ -23,47 +25,39 @@ use Rattle.dp_node.specs.Places.{asked}
 use Rattle.dp_wire.specs.declared.request.BadRequest.{BadRequest}
 use Rattle.dp_wire.specs.Frame.{frame}
 use Rattle.dp_wire.specs.Reading.{request_at}
-use Rattle.dp_wire.specs.Request.{Request, Ring, Roll, Revoke, RevokeBefore}
-use Rattle.dp_session.specs.declared.answer.Answered.{Answered}
+use Rattle.dp_wire.specs.Request.{Request, Roll, Revoke, RevokeBefore}
+use Rattle.dp_session.specs.declared.response.Response.{Response}
 use Rattle.dp_session.specs.declared.trace.Entry.{Entry}
 use Rattle.dp_session.specs.declared.trace.Used.{Used}
 use Rattle.dp_session.specs.declared.trace.Used.TheVariants as used
+use Rattle.dp_session.specs.Needs.{need_of, needs_ring, missing_of, seals, sealed_len, HasBadDates}
 use Rattle.dp_session.specs.Replies.{reply_to}
 
--- how many elements a request asks for
-abbrev pub need_of : Result Request BadRequest → ℕ
-need_of (Ok (Ring need)) = need
-need_of (Ok (Roll activation expiration code)) = 0
-need_of (Ok (Revoke id reason)) = 0
-need_of (Ok (RevokeBefore date reason)) = 0
-need_of (Err why) = 0
-
--- the dates of the element that a request asks for are out of order or too late
-abbrev pub HasBadDates : Request → ℕ → Type 0
-HasBadDates (Ring need) now = ⊥
-HasBadDates (Roll activation expiration code) now = AreBadDates now activation expiration
-HasBadDates (Revoke id reason) now = ⊥
-HasBadDates (RevokeBefore date reason) now = MAX_TICKS < date
+-- when a request comes, and how many elements it asks for
+abbrev pub asking : Request → ℕ → At
+asking p now = record { now = now; need = need_of (Ok p) }
 
 -- what a request asks to be appended to the list that the pass has seen: a key that eighty bytes
 -- drawn make, or a revocation
 abbrev pub Asks : Request → ℕ → List Element → Option (List Element) → Asked → Type 0
-Asks (Ring need) now own told a = ⊥
 Asks (Roll activation expiration code) now own told a =
     a ≡ asked own true (λ bytes. key_of_draw bytes now activation expiration code) told
 Asks (Revoke id reason) now own told a =
     a ≡ asked own false (λ _. elements.RevokeKey (record { 0 = id }) now reason) told
 Asks (RevokeBefore date reason) now own told a =
     a ≡ asked own false (λ _. elements.RevokeBefore date reason) told
+Asks _ now own told a = ⊥
 
--- what is used where a path comes to a ring, or is refused; want of memory may come at any time
-abbrev pub IsByRing : Result RingOf Refusal → Used → Type 0
-IsByRing r (used.Ring front made_at) =
-    (ring : RingOf) × (r ≡ Ok ring) × (front ≡ length ring.list) × (made_at ≡ ring.made_at)
-IsByRing r (used.Placed place) = ⊥
-IsByRing r (used.Refused why) = (r ≡ Err (refusal why)) × (why ≢ errors.Memory)
-IsByRing r (used.BadRequest place) = ⊥
-IsByRing r used.NoMemory = Unit {0}
+-- what follows the path to a ring, where these bytes are drawn behind its steps: the path was refused;
+-- the request is answered by its ring; the draw for its payload fails; no memory is found, before that
+-- draw, behind it, or for the reply that it failed
+pub data Follows (p : Request) (r : Result RingOf Refusal) (u : Used) (bytes : List ℕ) (old new : DrawState) : Type 0 where
+  refused : (why : NodeError) → r ≡ Err (refusal why) → why ≢ errors.Memory → u ≡ used.Refused why → bytes ≡ [] → new ≡ old → Follows p r u bytes old new
+  answered : (ring : RingOf) → r ≡ Ok ring → u ≡ used.Ring (length ring.list) ring.made_at → length bytes ≡ sealed_len p ring → Draws 0 bytes old new → Follows p r u bytes old new
+  undrawn : (ring : RingOf) → r ≡ Ok ring → seals p ≡ true → u ≡ used.Refused errors.DrawFault → bytes ≡ [] → Draws 1 [] old new → Follows p r u bytes old new
+  stopped : u ≡ used.NoMemory → bytes ≡ [] → new ≡ old → Follows p r u bytes old new
+  lost : (ring : RingOf) → r ≡ Ok ring → u ≡ used.NoMemory → length bytes ≡ sealed_len p ring → Draws 0 bytes old new → Follows p r u bytes old new
+  unheard : (ring : RingOf) → r ≡ Ok ring → seals p ≡ true → u ≡ used.NoMemory → bytes ≡ [] → Draws 1 [] old new → Follows p r u bytes old new
 
 -- what is used where a path comes to a place, or is refused
 abbrev pub IsByPlace : Result ℕ Refusal → Used → Type 0
@@ -74,12 +68,13 @@ IsByPlace r (used.BadRequest place) = ⊥
 IsByPlace r used.NoMemory = Unit {0}
 
 -- how a request is served that was read as q: it is none; no memory is found before anything is
--- done; its dates are bad; it takes a lawful path to a ring; it takes a lawful path to a place
+-- done; its dates are bad; it takes a lawful path to a ring, and what follows; it takes a lawful path
+-- to a place. What was drawn is what the path drew, and then what was drawn for a payload
 pub data Serves (q : Result Request BadRequest) (now : ℕ) (u : Used) (drawn : List ℕ) (old new : Books) : Type 0 where
   unread : (why : BadRequest) → q ≡ Err why → u ≡ used.BadRequest why.place → drawn ≡ [] → new ≡ old → Serves q now u drawn old new
   unstarted : u ≡ used.NoMemory → drawn ≡ [] → new ≡ old → Serves q now u drawn old new
   misdated : (p : Request) → q ≡ Ok p → HasBadDates p now → u ≡ used.Refused errors.BadDates → drawn ≡ [] → new ≡ old → Serves q now u drawn old new
-  by_ring : (need : ℕ) → q ≡ Ok (Ring need) → (r : Result RingOf Refusal) → (x : Does (CallPath (call (record { now = now; need = need }) old.host new.store.list) r new.host.own) old new) → x.course.drawn ≡ drawn → IsByRing r u → Serves q now u drawn old new
+  by_ring : (p : Request) → q ≡ Ok p → needs_ring p ≡ true → (HasBadDates p now → ⊥) → (r : Result RingOf Refusal) → (between : DrawState) → (x : Does (CallPath (call (asking p now) (missing_of p) old.host new.store.list) r new.host.own) old (record new { draws = between })) → (bytes : List ℕ) → drawn ≡ x.course.drawn ++ bytes → Follows p r u bytes between new.draws → Serves q now u drawn old new
   by_place : (p : Request) → q ≡ Ok p → (HasBadDates p now → ⊥) → (a : Asked) → Asks p now old.host.own new.store.list a → (r : Result ℕ Refusal) → (x : Does (PlacePath a r new.host.own) old new) → x.course.drawn ≡ drawn → IsByPlace r u → Serves q now u drawn old new
 
 -- the list that an entry brings to the trace: the one that the pass has seen afterwards
@@ -91,17 +86,17 @@ IsListOf (used.BadRequest place) list own = list ≡ None
 IsListOf used.NoMemory list own = list ≡ None
 
 -- what a request was answered by, with the frame of a reply, unless memory wanted
-abbrev pub IsAnswer : Used → List ℕ → Option (List Element) → Result Answered Memory → Type 0
+abbrev pub IsAnswer : Used → List ℕ → Option (List Element) → Result Response Memory → Type 0
 IsAnswer u body list (Ok a) = (a.used ≡ u) × (a.reply.items ≡ frame body) × (a.list ≡ list)
 IsAnswer u body list (Err _) = Unit {0}
 
 -- a request was served, or no memory was found for its reply
-abbrev pub Served : Result Request BadRequest → ℕ → Result Answered Memory → List ℕ → Books → Books → Type 0
-Served q now (Ok a) drawn old new =
+abbrev pub Served : List ℕ → Result Request BadRequest → ℕ → Result Response Memory → List ℕ → Books → Books → Type 0
+Served app q now (Ok a) drawn old new =
     Serves q now a.used drawn old new
-    × (a.reply.items ≡ frame (reply_to q a.used drawn new.host.own))
+    × (a.reply.items ≡ frame (reply_to app now q a.used drawn new.host.own))
     × IsListOf a.used a.list new.host.own
-Served q now (Err _) drawn old new = Serves q now used.NoMemory drawn old new
+Served app q now (Err _) drawn old new = Serves q now used.NoMemory drawn old new
 
 -- what a session's requests change
 pub record State : Type 0 where

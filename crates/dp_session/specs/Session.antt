@@ -42,16 +42,18 @@ abbrev pub longest : List Entry → ℕ
 longest [] = 0
 longest (e ∷ es) = max (front_of e.used) (longest es)
 
--- the frame of the reply to the request of a body; the entry's list is a front of the session's
-abbrev pub reply_frame : List ℕ → Entry → List Element → List ℕ
-reply_frame body e list =
-    frame (reply_to (request_at body) e.used e.drawn (take (front_of e.used) list))
+-- the frame of the reply to the request of a body, under an application name; the entry's list is a
+-- front of the session's
+abbrev pub reply_frame : List ℕ → List ℕ → Entry → List Element → List ℕ
+reply_frame app body e list =
+    frame (reply_to app e.now (request_at body) e.used e.drawn (take (front_of e.used) list))
 
 -- all replies, one after the other
-abbrev pub session_output : List (List ℕ) → List Entry → List Element → List ℕ
-session_output [] es list = []
-session_output (b ∷ bodies) [] list = []
-session_output (b ∷ bodies) (e ∷ es) list = reply_frame b e list ++ session_output bodies es list
+abbrev pub session_output : List ℕ → List (List ℕ) → List Entry → List Element → List ℕ
+session_output app [] es list = []
+session_output app (b ∷ bodies) [] list = []
+session_output app (b ∷ bodies) (e ∷ es) list =
+    reply_frame app b e list ++ session_output app bodies es list
 
 -- the session's list after a request: that which the pass has seen where the request used one
 abbrev pub IsListAfter : Used → List Element → List Element → List Element → Type 0
@@ -72,19 +74,19 @@ pub record Outside : Type 0 where
 
 -- a request was served: its entry was added, its list may have become the session's, and its reply
 -- was written
-pub record OneServed (writes : Option (List ℕ) → Option (List ℕ) → List ℕ → Type 0) (body : List ℕ) (old new : Outside) : Type 0 where
+pub record OneServed (app : List ℕ) (writes : Option (List ℕ) → Option (List ℕ) → List ℕ → Type 0) (body : List ℕ) (old new : Outside) : Type 0 where
   pub entry : Entry
   pub added : new.entries ≡ old.entries ++ entry ∷ []
   pub is : IsEntry body entry old.state new.state
   pub list : IsListAfter entry.used old.list new.state.host.own new.list
-  pub written : writes old.output new.output (frame (reply_to (request_at body) entry.used entry.drawn new.state.host.own))
+  pub written : writes old.output new.output (frame (reply_to app entry.now (request_at body) entry.used entry.drawn new.state.host.own))
 
 -- one request more: its frame, of so many bytes, was read, and it was served
-pub record OneMore (writes : Option (List ℕ) → Option (List ℕ) → List ℕ → Type 0) (old new : Outside) (len : ℕ) : Type 0 where
+pub record OneMore (app : List ℕ) (writes : Option (List ℕ) → Option (List ℕ) → List ℕ → Type 0) (old new : Outside) (len : ℕ) : Type 0 where
   pub body : List ℕ
   pub fits : IsBodyLen (length body)
   pub read : Consumes old.input new.input (frame body)
-  pub served : OneServed writes body old new
+  pub served : OneServed app writes body old new
   pub count : len ≡ length (frame body)
 
 -- nothing more was served, and nothing but the input was touched
@@ -95,19 +97,19 @@ pub record NoMore (old new : Outside) : Type 0 where
   pub list : new.list ≡ old.list
 
 -- how a session ends at its next frame: so many bytes from its beginning
-abbrev pub EndsAt : Status → Option BadWhy → Outside → Outside → Type 0
-EndsAt status.Done bad old new =
+abbrev pub EndsAt : List ℕ → Status → Option BadWhy → Outside → Outside → Type 0
+EndsAt app status.Done bad old new =
     NoMore old new × IfSome old.input (λ bytes. (bytes ≡ []) × (new.input ≡ Some [])) × (bad ≡ None)
-EndsAt status.BadWords bad old new = ⊥
-EndsAt status.BadInput bad old new =
+EndsAt app status.BadWords bad old new = ⊥
+EndsAt app status.BadInput bad old new =
     NoMore old new × IfSome bad (λ why. IfSome old.input (λ bytes. IsBadFrame bytes why)) × IsSome bad
-EndsAt status.ReadFault bad old new =
+EndsAt app status.ReadFault bad old new =
     NoMore old new × TakesAtMost (4 + MAX_BODY) old.input new.input × (bad ≡ None)
-EndsAt status.WriteFault bad old new = (len : ℕ) × OneMore WritesFront old new len × (bad ≡ None)
-EndsAt status.StoreFault bad old new = ⊥
-EndsAt status.DrawFault bad old new = ⊥
-EndsAt status.NoMemory bad old new = NoMore old new × (new.input ≡ old.input) × (bad ≡ None)
-EndsAt status.Spent bad old new = ⊥
+EndsAt app status.WriteFault bad old new = (len : ℕ) × OneMore app WritesFront old new len × (bad ≡ None)
+EndsAt app status.StoreFault bad old new = ⊥
+EndsAt app status.DrawFault bad old new = ⊥
+EndsAt app status.NoMemory bad old new = NoMore old new × (new.input ≡ old.input) × (bad ≡ None)
+EndsAt app status.Spent bad old new = ⊥
 
 -- what a session is asked, and what it has come to
 abbrev pub outside : Option (List ℕ) → Option (List ℕ) → State → List Entry → List Element → Outside
@@ -136,12 +138,12 @@ pub record IsLongest (es : List Entry) (list before after : List Element) : Type
 
 -- requests that were served so far: their bodies, as the bytes that were read and the entries tell,
 -- and their replies
-pub record SoFar (old new : Outside) (place : ℕ) : Type 0 where
+pub record SoFar (app : List ℕ) (old new : Outside) (place : ℕ) : Type 0 where
   pub bodies : List (List ℕ)
   pub fit : AreBodies bodies
   pub chain : Chain bodies new.entries old.state new.state
   pub read : Consumes old.input new.input (frames bodies)
-  pub written : Writes old.output new.output (session_output bodies new.entries new.list)
+  pub written : Writes old.output new.output (session_output app bodies new.entries new.list)
   pub list : IsLongest new.entries new.list old.state.host.own new.state.host.own
   pub count : place ≡ length (frames bodies)
 
@@ -176,9 +178,9 @@ abbrev pub EndsOutput : Status → Option (List ℕ) → Option (List ℕ) → L
 EndsOutput status.WriteFault written after bytes = WritesFront written after bytes
 EndsOutput _ written after bytes = Writes written after bytes
 
--- a whole session: the requests are the frames of the bytes read, in order, each has its entry, and
+-- a whole session under an application name: the requests are the frames of the bytes read, in order, each has its entry, and
 -- the bytes written are the replies to them
-pub record IsSession (end : Status) (bad : Option BadPlace) (old new : Outside) : Type 0 where
+pub record IsSession (app : List ℕ) (end : Status) (bad : Option BadPlace) (old new : Outside) : Type 0 where
   pub bodies : List (List ℕ)
   pub fit : AreBodies bodies
   pub chain : Chain bodies new.entries old.state new.state
@@ -186,5 +188,5 @@ pub record IsSession (end : Status) (bad : Option BadPlace) (old new : Outside) 
   pub left : Option (List ℕ)
   pub read : Consumes old.input left (frames bodies)
   pub ends : EndsInput end bad (length (frames bodies)) left new.input
-  pub written : EndsOutput end old.output new.output (session_output bodies new.entries new.list)
+  pub written : EndsOutput end old.output new.output (session_output app bodies new.entries new.list)
   pub list : IsLongest new.entries new.list old.state.host.own new.state.host.own

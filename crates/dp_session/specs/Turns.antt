@@ -10,7 +10,7 @@ use Rattle.dp_wire.specs.declared.reply.Reply.TheVariants as replies
 use Rattle.dp_wire.specs.Frame.{frame}
 use Rattle.dp_wire.specs.Reading.{request_at}
 use Rattle.dp_wire.specs.Replies.{reply_body}
-use Rattle.dp_session.specs.declared.answer.Answered.{Answered}
+use Rattle.dp_session.specs.declared.response.Response.{Response}
 use Rattle.dp_session.specs.declared.reading.Unread.{Unread}
 use Rattle.dp_session.specs.declared.reading.Unread.TheVariants as unread
 use Rattle.dp_session.specs.declared.serving.Halt.{Halt}
@@ -18,10 +18,11 @@ use Rattle.dp_session.specs.declared.serving.Turn.{Turn}
 use Rattle.dp_session.specs.declared.status.Status.TheVariants as status
 use Rattle.dp_session.specs.declared.trace.Used.TheVariants as used
 use Rattle.dp_session.specs.Replies.{reply_to}
-use Rattle.dp_session.specs.Serving.{State, Serves, before, after, need_of, IsNeed, IsListOf}
+use Rattle.dp_session.specs.Needs.{need_of}
+use Rattle.dp_session.specs.Serving.{State, Serves, before, after, IsNeed, IsListOf}
 
 -- the turn of a request that was answered, or found no memory
-abbrev pub turn_of : Result Answered Memory → ℕ → ℕ → ℕ → List Step → List ℕ → Turn
+abbrev pub turn_of : Result Response Memory → ℕ → ℕ → ℕ → List Step → List ℕ → Turn
 turn_of (Ok a) now need seen steps drawn = record {
   entry = record { now = now; need = need; seen = seen; used = a.used; steps = steps; drawn = drawn };
   reply = Some a.reply;
@@ -49,11 +50,11 @@ halt_of (unread.Bad why) = record { status = status.BadInput; bad = Some why }
 halt_of unread.Failed = record { status = status.ReadFault; bad = None }
 
 -- the turn is that of the request of the body, at the moment
-pub record IsTurn (body : List ℕ) (now : ℕ) (t : Turn) (old new : State) : Type 0 where
+pub record IsTurn (app body : List ℕ) (now : ℕ) (t : Turn) (old new : State) : Type 0 where
   pub moment : t.entry.now ≡ now
   pub need : IsNeed t.entry.need (need_of (request_at body)) t.entry.used
   pub seen : t.entry.seen ≡ length old.host.own
   pub serves : Serves (request_at body) now t.entry.used t.entry.drawn (before old) (after t.entry.steps t.entry.drawn new)
   pub grows : Extends new.host.own old.host.own
-  pub reply : reply_bytes t.reply ≡ frame (reply_to (request_at body) t.entry.used t.entry.drawn new.host.own)
+  pub reply : reply_bytes t.reply ≡ frame (reply_to app now (request_at body) t.entry.used t.entry.drawn new.host.own)
   pub list : IsListOf t.entry.used t.list new.host.own

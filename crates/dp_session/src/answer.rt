@@ -1,276 +1,148 @@
 //! One request: its call, and the reply to it.
 
-ghost use Rattle.std.specs.Prelude.{◌≡◌, ◌≢◌, ◌<◌, ◌≤◌, ◌^◌, false, ℕ, List, [], Some, None, Ok, length, IfOk, OnOk, MatchOption};
+ghost use Rattle.std.specs.Prelude.{◌≡◌, ◌<◌, ◌≤◌, ◌^◌, false, true, ℕ, List, [], Ok, length, IfOk, IfSome};
 ghost use Rattle.dp_base.specs.declared.ticks.TheConstants.{LAST};
-ghost use Rattle.dp_base.specs.Codes.{IsCode};
 ghost use Rattle.dp_base.specs.Draws.{DrawState};
 ghost use Rattle.dp_base.specs.Readers.{seen};
 ghost use Rattle.key_elements.specs.Lists.{Extends};
-ghost use Rattle.key_elements.specs.Reason.{IsReason};
-ghost use Rattle.dp_node.specs.declared.error.NodeError.TheVariants as errors;
 ghost use Rattle.dp_node.specs.Books.{books};
-ghost use Rattle.dp_wire.specs.declared.reply.Reply.TheVariants as replies;
-ghost use Rattle.dp_wire.specs.Frame.{frame};
-ghost use Rattle.dp_wire.specs.Replies.{reply_body};
-ghost use Rattle.dp_wire.specs.Request.{request_of, IsRequest, Ring as RingRequest, Roll, Revoke, RevokeBefore};
-ghost use Rattle.dp_session.specs.declared.trace.Used.TheVariants as used;
-ghost use Rattle.dp_session.specs.Replies.{listing_in, listing_reply, refusal_reply};
-ghost use Rattle.dp_session.specs.Serving.{IsAnswer, Served};
+ghost use Rattle.dp_wire.specs.Request.{request_of, IsRequest, Ring as RingRequest};
+ghost use Rattle.dp_session.specs.Needs.{HasBadDates, IsShort, needs_ring};
+ghost use Rattle.dp_session.specs.Responding.{Responds};
+ghost use Rattle.dp_session.specs.Serving.{Served};
+ghost use Rattle.dp_session.specs.Sought.{IsSought};
 
-use crate::trace::Used;
-use dp_base::{Draw, Grows, KeyId, Memory, alg_of};
-use dp_node::{At, Host, HostView, NodeError, revoke, revoke_before, ring_for, roll};
-use dp_wire::{BadRequest, Reply, RequestView, put_reply};
-use key_elements::{ElementList, Reason};
+use crate::app::AppName;
+use crate::needs::{Sought, need_of, seek};
+use crate::opening::{opened, opened_text, opened_timed};
+use crate::placing::{place_key, place_mass_revocation, place_revocation};
+use crate::protecting::{protected, protected_text, protected_timed};
+use crate::response::{Response, bad_request, by_ring, refused};
+use dp_base::{Draw, MAX_TICKS, Memory};
+use dp_encryptor::HeaderTable;
+use dp_node::{At, Host, HostView, NodeError, ring_for};
+use dp_wire::{BadRequest, Reply, RequestView};
 use key_ring::Ring;
 use repo_keeper::Repo;
 use ring_world::StepList;
 use std::alloc::Global;
 
-// More bytes than any listing has.
-const MAX_LISTING: usize = 2_400_000;
-
-/// What a request was answered by, its reply's frame, and the list that it brings to the trace.
-#[derive(Debug, Drop)]
-pub(crate) struct Answered {
-    pub used: Used,
-    pub reply: Vec<u8>,
-    pub list: Option<ElementList>,
-}
-
-// The frame of a reply.
-fn framed(alloc: Global, reply: &Reply<'_>) -> Result<Vec<u8>, Memory>
-    requires { length (listing_in reply.now) < 2 ^ 31 }
-    ensures { IfOk result (λ bytes. bytes.items ≡ frame (reply_body reply.now)) }
-{
-    let mut bytes = Vec::new(alloc);
-    put_reply(alloc, reply, &mut bytes)?;
-    Ok(bytes)
-}
-
-// The reply that a call was refused; none where it wanted memory.
-fn reply_of(why: &NodeError) -> Option<Reply<'static>>
-    ensures { MatchOption result (why.now ≡ errors.Memory) (λ reply. (listing_in reply ≡ [])
-        × (reply_body reply ≡ refusal_reply why.now) × (why.now ≢ errors.Memory)) }
-{
-    match why {
-        NodeError::StoreFault => Some(Reply::StoreFault),
-        NodeError::DrawFault => Some(Reply::DrawFault),
-        NodeError::WentBack { had, got } => Some(Reply::WentBack {
-            had: *had,
-            got: *got,
-        }),
-        NodeError::Behind { have, need } => Some(Reply::Behind {
-            have: *have,
-            need: *need,
-        }),
-        NodeError::Forked(fork) => Some(Reply::Forked { at: fork.at }),
-        NodeError::Full { count } => Some(Reply::Full { count: *count }),
-        NodeError::BadDates => Some(Reply::BadDates),
-        NodeError::Memory => None,
-    }
-}
-
-// The answer that a call was refused.
-fn refused(alloc: Global, why: NodeError) -> Result<Answered, Memory>
-    ensures answer { IsAnswer (used.Refused why) (refusal_reply why) None result }
-    ensures known { OnOk result (why ≢ errors.Memory) }
-{
-    let reply = match reply_of(&why) {
-        Some(reply) => framed(alloc, &reply)?,
-        None => return Err(Memory),
-    };
-    Ok(Answered {
-        used: Used::Refused(why),
-        reply,
-        list: None,
-    })
-}
-
-// The answer to a body that is no request's.
-fn bad_request(alloc: Global, why: BadRequest) -> Result<Answered, Memory>
-    ensures { IsAnswer (used.BadRequest why.place) (reply_body (replies.BadRequest why.place))
-        None result }
-{
-    let reply = framed(alloc, &Reply::BadRequest { place: why.place })?;
-    Ok(Answered {
-        used: Used::BadRequest { place: why.place },
-        reply,
-        list: None,
-    })
-}
-
-// The answer by a ring: its listing. No list that fits its limit has a longer one, so nothing is
-// lost by taking such for want of memory.
+// The listing of a ring.
 #[tactic(auto, unfolding(dp_wire::specs::Replies::reply_body))]
-fn by_ring(alloc: Global, ring: &Ring) -> Result<Answered, Memory>
-    ensures { IsAnswer (used.Ring (length ring.now.list) ring.now.made_at)
-        (listing_reply ring.now.list ring.now.made_at) (Some ring.now.list) result }
+fn listed(alloc: Global, ring: &Ring) -> Result<Response, Memory>
+    ensures { (app : List ℕ) (now need : ℕ) (draws : DrawState) → Responds app now
+        (RingRequest need) ring.now result draws draws }
 {
     let front = ring.list().len();
     let text = ring.listing(alloc)?;
     let listing = text.as_str();
-    if listing.len() > MAX_LISTING {
-        return Err(Memory);
-    }
-    let reply = framed(alloc, &Reply::Ring { front, listing })?;
-    Ok(Answered {
-        used: Used::Ring {
-            front,
-            made_at: ring.made_at(),
-        },
-        reply,
-        list: Some(ring.list().share()?),
-    })
+    by_ring(alloc, ring, &Reply::Ring { front, listing })
 }
 
-// The listing of a ring of as many elements.
-fn list_ring<W, H: Host<W>, R: Repo<W>, D: Draw>(
+// The answer by a ring to a request that needs one.
+fn respond<D: Draw>(
+    alloc: Global,
+    app: &AppName,
+    headers: &HeaderTable,
+    ring: &Ring,
+    draw: &mut D,
+    now: u64,
+    view: RequestView<'_>,
+    sought: &Sought,
+) -> Result<Response, Memory>
+    requires short { IsShort (request_of view) }
+    requires needs { needs_ring (request_of view) ≡ true }
+    requires dates { HasBadDates (request_of view) now → ⊥ }
+    requires sought { IsSought (request_of view) sought.now }
+    requires kept { IfSome sought.now.payload (λ v. length v.items < 2 ^ 32) }
+    ensures { Responds app.now now (request_of view.entry) ring.now result (D.draws draw.old)
+        (D.draws draw.new) }
+{
+    match view {
+        RequestView::Ring { .. } => listed(alloc, ring),
+        RequestView::Protect { chain, plain, .. } => {
+            protected(alloc, app, headers, ring, draw, &chain, plain)
+        }
+        RequestView::Unprotect {
+            allow_revoked,
+            chain,
+            payload,
+            ..
+        } => opened(alloc, app, headers, ring, &chain, payload, allow_revoked),
+        RequestView::ProtectText { chain, text, .. } => {
+            protected_text(alloc, app, headers, ring, draw, &chain, text)
+        }
+        RequestView::UnprotectText {
+            allow_revoked,
+            chain,
+            ..
+        } => opened_text(
+            alloc,
+            app,
+            headers,
+            ring,
+            &chain,
+            &sought.payload,
+            allow_revoked,
+        ),
+        RequestView::ProtectTimed {
+            chain,
+            expiry,
+            plain,
+            ..
+        } => protected_timed(alloc, app, headers, ring, draw, &chain, expiry, plain),
+        RequestView::UnprotectTimed {
+            allow_revoked,
+            chain,
+            payload,
+            ..
+        } => opened_timed(
+            alloc,
+            app,
+            headers,
+            ring,
+            &chain,
+            payload,
+            allow_revoked,
+            now,
+        ),
+        RequestView::Roll { .. } | RequestView::Revoke { .. } | RequestView::RevokeBefore { .. } =>
+            { unreachable!() }
+    }
+}
+
+// Serves a request that needs a ring.
+fn answer_by_ring<W, H: Host<W>, R: Repo<W>, D: Draw>(
     w: &mut W,
     alloc: Global,
     host: &mut H,
     repo: &mut R,
     draw: &mut D,
-    at: At,
+    app: &AppName,
+    headers: &HeaderTable,
+    now: u64,
+    view: RequestView<'_>,
     steps: &mut StepList,
-) -> Result<Answered, Memory>
-    requires moment { at.now ≤ LAST }
+) -> Result<Response, Memory>
+    requires moment { now ≤ LAST }
+    requires short { IsShort (request_of view) }
+    requires needs { needs_ring (request_of view) ≡ true }
+    requires dates { HasBadDates (request_of view) now → ⊥ }
     requires free { (H.state host.old).held ≡ false }
     requires room { steps.old ≡ [] }
-    ensures served { (drawn : List ℕ) × Served (Ok (RingRequest at.need)) at.now result drawn
+    ensures served { (drawn : List ℕ) × Served app.now (Ok (request_of view.entry)) now result drawn
         (books [] (H.state host.old) (R.store repo.old) (D.draws draw.old))
         (books steps.new (H.state host.new) (R.store repo.new) (D.draws draw.new)) }
     ensures free { (H.state host.new).held ≡ false }
     ensures grows { Extends (H.state host.new).own (H.state host.old).own }
 {
-    match ring_for(w, alloc, host, repo, draw, at, steps) {
-        Ok(ring) => by_ring(alloc, &ring),
-        Err(why) => refused(alloc, why),
-    }
-}
-
-// The answer that an element was placed, at the end of what the pass has seen.
-fn placed<H: HostView>(
-    alloc: Global,
-    host: &H,
-    place: u64,
-    reply: &Reply<'_>,
-) -> Result<Answered, Memory>
-    requires { length (listing_in reply.now) < 2 ^ 31 }
-    ensures { IsAnswer (used.Placed place) (reply_body reply.now) (Some (H.state host.now).own)
-        result }
-{
-    Ok(Answered {
-        used: Used::Placed { place },
-        reply: framed(alloc, reply)?,
-        list: Some(host.own().share()?),
-    })
-}
-
-// A new key of these dates.
-fn place_key<W, H: Host<W>, R: Repo<W>, D: Draw>(
-    w: &mut W,
-    alloc: Global,
-    host: &mut H,
-    repo: &mut R,
-    draw: &mut D,
-    now: u64,
-    activation: u64,
-    expiration: u64,
-    code: u8,
-    steps: &mut StepList,
-) -> Result<Answered, Memory>
-    requires moment { now ≤ LAST }
-    requires code { IsCode code }
-    requires free { (H.state host.old).held ≡ false }
-    requires room { steps.old ≡ [] }
-    ensures served { (drawn : List ℕ) × Served (Ok (Roll activation expiration code)) now result drawn
-        (books [] (H.state host.old) (R.store repo.old) (D.draws draw.old))
-        (books steps.new (H.state host.new) (R.store repo.new) (D.draws draw.new)) }
-    ensures free { (H.state host.new).held ≡ false }
-    ensures grows { Extends (H.state host.new).own (H.state host.old).own }
-{
-    let alg = match alg_of(code) {
-        Some(alg) => alg,
-        None => return Err(Memory),
+    let sought = seek(alloc, view)?;
+    let at = At {
+        now,
+        need: need_of(Ok(view)),
     };
-    match roll(
-        w, alloc, host, repo, draw, now, activation, expiration, alg, steps,
-    ) {
-        Ok(key) => {
-            let front = host.own().len();
-            let reply = Reply::Rolled { front, id: key.id };
-            placed(alloc, host, key.place, &reply)
-        }
-        Err(why) => refused(alloc, why),
-    }
-}
-
-// The revocation of a key.
-fn place_revocation<W, H: Host<W>, R: Repo<W>>(
-    w: &mut W,
-    alloc: Global,
-    host: &mut H,
-    repo: &mut R,
-    now: u64,
-    id: KeyId,
-    reason: &str,
-    steps: &mut StepList,
-) -> Result<Answered, Memory>
-    requires moment { now ≤ LAST }
-    requires reason { IsReason reason.now }
-    requires free { (H.state host.old).held ≡ false }
-    requires room { steps.old ≡ [] }
-    ensures served { (draws : DrawState) → (drawn : List ℕ) × Served (Ok (Revoke id.0 reason.now))
-        now result drawn
-        (books [] (H.state host.old) (R.store repo.old) draws)
-        (books steps.new (H.state host.new) (R.store repo.new) draws) }
-    ensures free { (H.state host.new).held ≡ false }
-    ensures grows { Extends (H.state host.new).own (H.state host.old).own }
-{
-    let reason = match Reason::new(alloc, reason) {
-        Ok(reason) => reason,
-        Err(_) => return Err(Memory),
-    };
-    match revoke(w, alloc, host, repo, now, id, reason, steps) {
-        Ok(place) => {
-            let front = host.own().len();
-            placed(alloc, host, place, &Reply::Revoked { front })
-        }
-        Err(why) => refused(alloc, why),
-    }
-}
-
-// The revocation of all keys made before a date.
-fn place_mass_revocation<W, H: Host<W>, R: Repo<W>>(
-    w: &mut W,
-    alloc: Global,
-    host: &mut H,
-    repo: &mut R,
-    now: u64,
-    date: u64,
-    reason: &str,
-    steps: &mut StepList,
-) -> Result<Answered, Memory>
-    requires reason { IsReason reason.now }
-    requires free { (H.state host.old).held ≡ false }
-    requires room { steps.old ≡ [] }
-    ensures served { (draws : DrawState) → (drawn : List ℕ) × Served (Ok (RevokeBefore date reason.now))
-        now result drawn
-        (books [] (H.state host.old) (R.store repo.old) draws)
-        (books steps.new (H.state host.new) (R.store repo.new) draws) }
-    ensures free { (H.state host.new).held ≡ false }
-    ensures grows { Extends (H.state host.new).own (H.state host.old).own }
-{
-    let reason = match Reason::new(alloc, reason) {
-        Ok(reason) => reason,
-        Err(_) => return Err(Memory),
-    };
-    match revoke_before(w, alloc, host, repo, date, reason, steps) {
-        Ok(place) => {
-            let front = host.own().len();
-            placed(alloc, host, place, &Reply::RevokedBefore { front })
-        }
+    match ring_for(w, alloc, host, repo, draw, at, sought.missing, steps) {
+        Ok(ring) => respond(alloc, app, headers, &ring, draw, now, view, &sought),
         Err(why) => refused(alloc, why),
     }
 }
@@ -282,24 +154,24 @@ fn answer_view<W, H: Host<W>, R: Repo<W>, D: Draw>(
     host: &mut H,
     repo: &mut R,
     draw: &mut D,
+    app: &AppName,
+    headers: &HeaderTable,
     now: u64,
     view: RequestView<'_>,
     steps: &mut StepList,
-) -> Result<Answered, Memory>
+) -> Result<Response, Memory>
     requires moment { now ≤ LAST }
     requires request { IsRequest (request_of view) }
+    requires short { IsShort (request_of view) }
     requires free { (H.state host.old).held ≡ false }
     requires room { steps.old ≡ [] }
-    ensures served { (drawn : List ℕ) × Served (Ok (request_of view.entry)) now result drawn
+    ensures served { (drawn : List ℕ) × Served app.now (Ok (request_of view.entry)) now result drawn
         (books [] (H.state host.old) (R.store repo.old) (D.draws draw.old))
         (books steps.new (H.state host.new) (R.store repo.new) (D.draws draw.new)) }
     ensures free { (H.state host.new).held ≡ false }
     ensures grows { Extends (H.state host.new).own (H.state host.old).own }
 {
     match view {
-        RequestView::Ring { need } => {
-            list_ring(w, alloc, host, repo, draw, At { now, need }, steps)
-        }
         RequestView::Roll {
             activation,
             expiration,
@@ -313,6 +185,10 @@ fn answer_view<W, H: Host<W>, R: Repo<W>, D: Draw>(
         RequestView::RevokeBefore { date, reason } => {
             place_mass_revocation(w, alloc, host, repo, now, date, reason, steps)
         }
+        RequestView::ProtectTimed { expiry, .. } if expiry > MAX_TICKS => {
+            refused(alloc, NodeError::BadDates)
+        }
+        _ => answer_by_ring(w, alloc, host, repo, draw, app, headers, now, view, steps),
     }
 }
 
@@ -323,22 +199,25 @@ pub(crate) fn answer<W, H: Host<W>, R: Repo<W>, D: Draw>(
     host: &mut H,
     repo: &mut R,
     draw: &mut D,
+    app: &AppName,
+    headers: &HeaderTable,
     now: u64,
     request: Result<RequestView<'_>, BadRequest>,
     steps: &mut StepList,
-) -> Result<Answered, Memory>
+) -> Result<Response, Memory>
     requires moment { now ≤ LAST }
     requires request { IfOk request (λ view. IsRequest (request_of view)) }
+    requires short { IfOk request (λ view. IsShort (request_of view)) }
     requires free { (H.state host.old).held ≡ false }
     requires room { steps.old ≡ [] }
-    ensures served { (drawn : List ℕ) × Served (seen request_of request.entry) now result drawn
+    ensures served { (drawn : List ℕ) × Served app.now (seen request_of request.entry) now result drawn
         (books [] (H.state host.old) (R.store repo.old) (D.draws draw.old))
         (books steps.new (H.state host.new) (R.store repo.new) (D.draws draw.new)) }
     ensures free { (H.state host.new).held ≡ false }
     ensures grows { Extends (H.state host.new).own (H.state host.old).own }
 {
     match request {
-        Ok(view) => answer_view(w, alloc, host, repo, draw, now, view, steps),
+        Ok(view) => answer_view(w, alloc, host, repo, draw, app, headers, now, view, steps),
         Err(why) => bad_request(alloc, why),
     }
 }

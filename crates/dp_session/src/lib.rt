@@ -3,13 +3,22 @@
 #![tactic(auto)]
 
 mod answer;
+mod app;
+mod calls;
 mod end;
+mod needs;
+mod opening;
+mod placing;
+mod protecting;
 mod reading;
+mod response;
 mod serving;
 mod session;
 mod status;
 mod trace;
 
+pub use app::{AppName, AppRefused, MAX_APP, Setup};
+pub use calls::{Answered, CallRefused, protect, unprotect};
 pub use end::{BadPlace, BadWhy, SessionEnd};
 pub use session::{MAX_REQUESTS, serve_session};
 pub use status::Status;

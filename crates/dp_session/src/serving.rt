@@ -12,15 +12,20 @@ ghost use Rattle.dp_wire.specs.Request.{request_of, IsRequest};
 ghost use Rattle.dp_session.specs.declared.status.Status.TheVariants.{ReadFault, WriteFault};
 ghost use Rattle.dp_session.specs.Frames.{IsKept, Reads};
 ghost use Rattle.dp_session.specs.Session.{EndsAt, OneMore, OneServed, outside};
-ghost use Rattle.dp_session.specs.Serving.{Served, telling, need_of, state};
+ghost use Rattle.dp_session.specs.Needs.{IsShort};
+ghost use Rattle.dp_session.specs.Serving.{Served, telling, state};
 ghost use Rattle.dp_session.specs.Turns.{turn_of, reply_bytes, list_after, halt_of, IsTurn};
 
-use crate::answer::{Answered, answer};
+use crate::answer::answer;
+use crate::app::AppName;
 use crate::end::BadWhy;
+use crate::needs::need_of;
 use crate::reading::{Body, Frame, Unread, read_frame};
+use crate::response::Response;
 use crate::status::Status;
 use crate::trace::{Drawn, Entry, Used};
 use dp_base::{Clock, Draw, Failed, LAST, Memory, Sink, Source, Taped, write_all};
+use dp_encryptor::HeaderTable;
 use dp_node::{Host, HostView};
 use dp_wire::{BadRequest, RequestView, no_memory_frame};
 use key_elements::ElementList;
@@ -58,23 +63,28 @@ fn answer_taped<'t, W, H: Host<W>, R: Repo<W>, D: Draw>(
     host: &mut H,
     repo: &mut R,
     draw: &mut Taped<'t, D>,
+    app: &AppName,
+    headers: &HeaderTable,
     now: u64,
     request: Result<RequestView<'_>, BadRequest>,
     steps: &mut StepList,
-) -> Result<Answered, Memory>
+) -> Result<Response, Memory>
     requires moment { now ≤ LAST }
     requires request { IfOk request (λ view. IsRequest (request_of view)) }
+    requires short { IfOk request (λ view. IsShort (request_of view)) }
     requires free { (H.state host.old).held ≡ false }
     requires room { steps.old ≡ [] }
     ensures loan { draw.new.draw.ghost_name ≡ draw.old.draw.ghost_name }
-    ensures served { (drawn : List ℕ) × Served (seen request_of request.entry) now result drawn
+    ensures served { (drawn : List ℕ) × Served app.now (seen request_of request.entry) now result drawn
         (books [] (H.state host.old) (R.store repo.old) (⟦<Taped<'t, D> as Draw>⟧.draws draw.old))
         (books steps.new (H.state host.new) (R.store repo.new)
         (⟦<Taped<'t, D> as Draw>⟧.draws draw.new)) }
     ensures free { (H.state host.new).held ≡ false }
     ensures grows { Extends (H.state host.new).own (H.state host.old).own }
 {
-    answer(w, alloc, host, repo, draw, now, request, steps)
+    answer(
+        w, alloc, host, repo, draw, app, headers, now, request, steps,
+    )
 }
 
 // Serves a request, and tells the bytes that it drew.
@@ -84,15 +94,18 @@ fn answer_told<W, H: Host<W>, R: Repo<W>, D: Draw>(
     host: &mut H,
     repo: &mut R,
     draw: &mut D,
+    app: &AppName,
+    headers: &HeaderTable,
     now: u64,
     request: Result<RequestView<'_>, BadRequest>,
     steps: &mut StepList,
-) -> (Result<Answered, Memory>, Drawn)
+) -> (Result<Response, Memory>, Drawn)
     requires moment { now ≤ LAST }
     requires request { IfOk request (λ view. IsRequest (request_of view)) }
+    requires short { IfOk request (λ view. IsShort (request_of view)) }
     requires free { (H.state host.old).held ≡ false }
     requires room { steps.old ≡ [] }
-    ensures served { Served (seen request_of request.entry) now result.0 result.1
+    ensures served { Served app.now (seen request_of request.entry) now result.0 result.1
         (books [] (H.state host.old) (R.store repo.old) (telling [] (D.draws draw.old)))
         (books steps.new (H.state host.new) (R.store repo.new)
         (telling result.1 (D.draws draw.new))) }
@@ -100,25 +113,16 @@ fn answer_told<W, H: Host<W>, R: Repo<W>, D: Draw>(
     ensures grows { Extends (H.state host.new).own (H.state host.old).own }
 {
     let mut taped = Taped::new(draw);
-    let answered = answer_taped(w, alloc, host, repo, &mut taped, now, request, steps);
+    let answered = answer_taped(
+        w, alloc, host, repo, &mut taped, app, headers, now, request, steps,
+    );
     let drawn = Drawn::of(taped.bytes());
     (answered, drawn)
 }
 
-// How many elements a request asks for.
-fn need_of(request: Result<RequestView<'_>, BadRequest>) -> u64
-    ensures { result ≡ need_of (seen request_of request.entry) }
-{
-    match request {
-        Ok(RequestView::Ring { need }) => need,
-        Ok(RequestView::Roll { .. } | RequestView::Revoke { .. } | RequestView::RevokeBefore { .. })
-        | Err(_) => 0,
-    }
-}
-
 // The turn of a request that was answered, or found no memory.
 fn turn_of(
-    answered: Result<Answered, Memory>,
+    answered: Result<Response, Memory>,
     now: u64,
     need: u64,
     seen: u64,
@@ -128,7 +132,7 @@ fn turn_of(
     ensures { result ≡ turn_of answered now need seen steps drawn }
 {
     let (used, reply, list) = match answered {
-        Ok(Answered { used, reply, list }) => (used, Some(reply), list),
+        Ok(Response { used, reply, list }) => (used, Some(reply), list),
         Err(_) => (Used::NoMemory, None, None),
     };
     let entry = Entry {
@@ -149,6 +153,8 @@ fn serve_body<W, H: Host<W>, R: Repo<W>, D: Draw>(
     host: &mut H,
     repo: &mut R,
     draw: &mut D,
+    app: &AppName,
+    headers: &HeaderTable,
     now: u64,
     body: &Option<Vec<u8>>,
     steps: StepList,
@@ -157,7 +163,8 @@ fn serve_body<W, H: Host<W>, R: Repo<W>, D: Draw>(
     requires body { IfSome body.now (λ bytes. length bytes.items ≤ MAX_BODY) }
     requires free { (H.state host.old).held ≡ false }
     requires room { steps ≡ [] }
-    ensures turn { (bytes : List ℕ) → IsKept body.now bytes → IsTurn bytes now result
+    ensures turn { (bytes : List ℕ) → IsKept body.now bytes → IsTurn app.now bytes now
+        result
         (state (H.state host.old) (R.store repo.old) (D.draws draw.old) None)
         (state (H.state host.new) (R.store repo.new) (D.draws draw.new) None) }
     ensures free { (H.state host.new).held ≡ false }
@@ -169,7 +176,7 @@ fn serve_body<W, H: Host<W>, R: Repo<W>, D: Draw>(
             let need = need_of(request);
             let mut steps = steps;
             let (answered, drawn) = answer_told(
-                w, alloc, host, repo, draw, now, request, &mut steps,
+                w, alloc, host, repo, draw, app, headers, now, request, &mut steps,
             );
             turn_of(answered, now, need, seen, steps, drawn)
         }
@@ -208,6 +215,8 @@ fn serve_frame<W, H: Host<W>, R: Repo<W>, D: Draw, C: Clock, O: Sink>(
     host: &mut H,
     repo: &mut R,
     draw: &mut D,
+    app: &AppName,
+    headers: &HeaderTable,
     clock: &mut C,
     output: &mut O,
     body: &Body,
@@ -219,12 +228,14 @@ fn serve_frame<W, H: Host<W>, R: Repo<W>, D: Draw, C: Clock, O: Sink>(
     requires body { IfSome body.now.kept (λ bytes. length bytes.items ≤ MAX_BODY) }
     requires steps { steps ≡ [] }
     requires room { vec_len entries.old < vec_capacity entries.old }
-    ensures ok { OnOk result ((bytes : List ℕ) → Reads body.now bytes → OneServed Writes bytes
+    ensures ok { OnOk result ((bytes : List ℕ) → Reads body.now bytes → OneServed app.now Writes
+        bytes
         (outside None (O.written output.old) (state (H.state host.old) (R.store repo.old)
         (D.draws draw.old) (C.moments clock.old)) entries.old.items list.old)
         (outside None (O.written output.new) (state (H.state host.new) (R.store repo.new)
         (D.draws draw.new) (C.moments clock.new)) entries.new.items list.new)) }
-    ensures err { OnErr result ((bytes : List ℕ) → Reads body.now bytes → OneServed WritesFront bytes
+    ensures err { OnErr result ((bytes : List ℕ) → Reads body.now bytes → OneServed app.now WritesFront
+        bytes
         (outside None (O.written output.old) (state (H.state host.old) (R.store repo.old)
         (D.draws draw.old) (C.moments clock.old)) entries.old.items list.old)
         (outside None (O.written output.new) (state (H.state host.new) (R.store repo.new)
@@ -234,7 +245,9 @@ fn serve_frame<W, H: Host<W>, R: Repo<W>, D: Draw, C: Clock, O: Sink>(
     ensures fault { OnErr result (O.faults output.new ≡ one_more (O.faults output.old)) }
 {
     let now = clock.now().min(LAST);
-    let turn = serve_body(w, alloc, host, repo, draw, now, &body.kept, steps);
+    let turn = serve_body(
+        w, alloc, host, repo, draw, app, headers, now, &body.kept, steps,
+    );
     let Turn {
         entry,
         reply,
@@ -275,6 +288,8 @@ pub(crate) fn serve_one<W, H: Host<W>, R: Repo<W>, D: Draw, C: Clock, I: Source,
     host: &mut H,
     repo: &mut R,
     draw: &mut D,
+    app: &AppName,
+    headers: &HeaderTable,
     clock: &mut C,
     input: &mut I,
     output: &mut O,
@@ -282,12 +297,12 @@ pub(crate) fn serve_one<W, H: Host<W>, R: Repo<W>, D: Draw, C: Clock, I: Source,
     list: &mut ElementList,
 ) -> Result<u64, Halt>
     requires free { (H.state host.old).held ≡ false }
-    ensures ok { IfOk result (OneMore Writes
+    ensures ok { IfOk result (OneMore app.now Writes
         (outside (I.left input.old) (O.written output.old) (state (H.state host.old)
         (R.store repo.old) (D.draws draw.old) (C.moments clock.old)) entries.old.items list.old)
         (outside (I.left input.new) (O.written output.new) (state (H.state host.new)
         (R.store repo.new) (D.draws draw.new) (C.moments clock.new)) entries.new.items list.new)) }
-    ensures err { IfErr result (λ halt. EndsAt halt.status halt.bad
+    ensures err { IfErr result (λ halt. EndsAt app.now halt.status halt.bad
         (outside (I.left input.old) (O.written output.old) (state (H.state host.old)
         (R.store repo.old) (D.draws draw.old) (C.moments clock.old)) entries.old.items list.old)
         (outside (I.left input.new) (O.written output.new) (state (H.state host.new)
@@ -312,7 +327,7 @@ pub(crate) fn serve_one<W, H: Host<W>, R: Repo<W>, D: Draw, C: Clock, I: Source,
         Err(why) => return Err(unread(why)),
     };
     match serve_frame(
-        w, alloc, host, repo, draw, clock, output, &body, steps, entries, list,
+        w, alloc, host, repo, draw, app, headers, clock, output, &body, steps, entries, list,
     ) {
         Ok(()) => Ok(4 + u64::from(body.len)),
         Err(_) => Err(ended(Status::WriteFault)),

@@ -1,18 +1,21 @@
 //! A session of framed requests.
 
-ghost use Rattle.std.specs.Prelude.{◌≡◌, ◌≢◌, ◌≤◌, ◌↔◌, false, None, [], length, IfSome, IsSome};
+ghost use Rattle.std.specs.Prelude.{◌≡◌, ◌≢◌, ◌≤◌, ◌↔◌, false, None, ℕ, List, [], length, IfSome, IsSome};
 ghost use Rattle.dp_base.specs.Counts.{one_more};
 ghost use Rattle.dp_session.specs.declared.status.Status.TheVariants.{BadInput, ReadFault, WriteFault, Spent};
 ghost use Rattle.dp_session.specs.Frames.{AreWhole};
 ghost use Rattle.dp_session.specs.Fresh.{AreFresh, AreCountedBy};
+ghost use Rattle.dp_session.specs.Shut.{AreShut};
 ghost use Rattle.dp_session.specs.Serving.{state};
 ghost use Rattle.dp_session.specs.Session.{EndsInput, IsSpentEnd, IsSession, bad_at, outside};
 
+use crate::app::Setup;
 use crate::end::{BadPlace, SessionEnd};
 use crate::serving::{Halt, serve_one};
 use crate::status::Status;
 use crate::trace::{Entries, Trace};
 use dp_base::{Clock, Draw, Sink, Source, read_full};
+use dp_encryptor::HeaderTable;
 use dp_node::{Host, HostView};
 use key_elements::ElementList;
 use repo_keeper::Repo;
@@ -58,6 +61,8 @@ pub fn serve_session<W, H: Host<W>, R: Repo<W>, D: Draw, C: Clock, I: Source, O:
     repo: &mut R,
     draw: &mut D,
     clock: &mut C,
+    setup: &Setup,
+    headers: &HeaderTable,
     input: &mut I,
     output: &mut O,
 ) -> SessionEnd
@@ -65,7 +70,7 @@ pub fn serve_session<W, H: Host<W>, R: Repo<W>, D: Draw, C: Clock, I: Source, O:
 
     // The requests are the frames of the bytes read, in order; each was served by a lawful path from
     // what the one before left, and has its entry; the bytes written are the replies to them.
-    ensures session { IsSession result.status result.bad
+    ensures session { IsSession setup.now.app result.status result.bad
         (outside (I.left input.old) (O.written output.old) (state (H.state host.old)
         (R.store repo.old) (D.draws draw.old) (C.moments clock.old)) [] [])
         (outside (I.left input.new) (O.written output.new) (state (H.state host.new)
@@ -79,6 +84,11 @@ pub fn serve_session<W, H: Host<W>, R: Repo<W>, D: Draw, C: Clock, I: Source, O:
     ensures counted { AreCountedBy result.trace.entries
         (state (H.state host.old) (R.store repo.old) (D.draws draw.old) (C.moments clock.old))
         (state (H.state host.new) (R.store repo.new) (D.draws draw.new) (C.moments clock.new)) }
+
+    // Nobody is answered with the plaintext of a payload whose key was revoked in what was seen before,
+    // or in what was needed, but where revoked keys are allowed. It follows from the clauses above.
+    ensures shut { (bodies : List (List ℕ)) → AreShut setup.now.app bodies result.trace.entries
+        result.trace.list }
 
     ensures few { length result.trace.entries ≤ MAX_REQUESTS }
     ensures spent { result.status ≡ Spent → length result.trace.entries ≡ MAX_REQUESTS }
@@ -109,6 +119,8 @@ pub fn serve_session<W, H: Host<W>, R: Repo<W>, D: Draw, C: Clock, I: Source, O:
             host,
             repo,
             draw,
+            &setup.app,
+            headers,
             clock,
             input,
             output,

@@ -1,5 +1,5 @@
 -- A field that is read stands in the bytes, and a field that stands there is read.
-use Rattle.std.proofs.Common.{◌≡◌, ℕ, ◌<◌, ◌≤◌, ◌^◌, Bool, true, false, cond, ltb, leb, ◌&&◌, List, [], ◌∷◌, ◌++◌, length, take, drop, Result, Ok, Err, refl, sym, ap, subst, arith}
+use Rattle.std.proofs.Common.{◌≡◌, ℕ, zero, suc, ◌<◌, ◌≤◌, ◌^◌, Bool, true, false, cond, ltb, leb, ◌&&◌, List, [], ◌∷◌, ◌++◌, length, take, drop, Result, Ok, Err, refl, sym, ap, subst, ◌∙◌, append_assoc, arith}
 use Rattle.std.specs.Int.{w64, from_be_bytes}
 use Rattle.std.proofs.lemmas.Bool.{ltb-false, le-ltb, le-leb, leb-true}
 use Rattle.std.proofs.lemmas.List.{take_at, drop_at, take-append-drop, length-append, length-take}
@@ -11,8 +11,9 @@ use Rattle.key_elements.specs.declared.refused.ElementRefused.{ElementRefused}
 use Rattle.key_elements.specs.Reading.{reason_at}
 use Rattle.key_elements.proofs.Fields.{TakesReason, reason_takes}
 use Rattle.dp_wire.specs.declared.request.BadRequest.{BadRequest}
-use Rattle.dp_wire.specs.Request.{Request, field}
-use Rattle.dp_wire.specs.Reading.{◌>>=◌, wrong, bytes_at, number_at, code_at, reason_told, text_at, ends}
+use Rattle.std.specs.Str.{is_utf8}
+use Rattle.dp_wire.specs.Request.{Request, field, flag}
+use Rattle.dp_wire.specs.Reading.{◌>>=◌, wrong, bytes_at, number_at, code_at, reason_told, text_at, flag_at, whole_text_at, ends}
 
 -- the value of a step that was not refused
 pub bind_ok : {A B : Type 0} (r : Result A BadRequest) (f : A → Result B BadRequest) (y : B) → (r >>= f) ≡ Ok y → (x : A) × (r ≡ Ok x) × (f x ≡ Ok y)
@@ -28,6 +29,10 @@ guard_ok false why x y e = (refl, cc)
 pub record Takes (bytes front rest : List ℕ) : Type 0 where
   pub parts : bytes ≡ front ++ rest
   pub rest_fits : AreBytes rest
+
+-- a field behind a field
+pub then : (a x b y c : List ℕ) → a ≡ x ++ b → b ≡ y ++ c → a ≡ (x ++ y) ++ c
+then a x b y c p q = p ∙ ap (λ (t : List ℕ). x ++ t) q ∙ sym (append_assoc x y c)
 
 -- ---- a field of n bytes
 
@@ -108,6 +113,43 @@ reason_ok why (Err refused) x e = absurd cc
 pub text_takes : (len : ℕ) (bytes : List ℕ) (x : List ℕ × List ℕ) → AreBytes bytes → text_at len bytes ≡ Ok x → TakesReason bytes x.0 x.1
 unfolding text_at
 text_takes len bytes x fits e = reason_takes bytes x fits (reason_ok (wrong len bytes) (reason_at bytes) x e)
+
+-- ---- whether revoked keys are allowed
+
+pub record TakesFlag (bytes : List ℕ) (allow : Bool) (rest : List ℕ) : Type 0 where
+  pub takes : Takes bytes (flag allow ∷ []) rest
+
+pub flag_takes : (len : ℕ) (bytes : List ℕ) (x : Bool × List ℕ) → AreBytes bytes → flag_at len bytes ≡ Ok x → TakesFlag bytes x.0 x.1
+unfolding flag_at
+flag_takes len [] x fits e = absurd cc
+flag_takes len (zero ∷ rest) x fits e =
+    let same : (false, rest) ≡ x = cc e in
+    subst (λ (y : Bool × List ℕ). TakesFlag (0 ∷ rest) y.0 y.1) same (record { takes = record { parts = refl; rest_fits = AreBytes-drop 1 (0 ∷ rest) fits } })
+flag_takes len (suc zero ∷ rest) x fits e =
+    let same : (true, rest) ≡ x = cc e in
+    subst (λ (y : Bool × List ℕ). TakesFlag (1 ∷ rest) y.0 y.1) same (record { takes = record { parts = refl; rest_fits = AreBytes-drop 1 (1 ∷ rest) fits } })
+flag_takes len (suc (suc b) ∷ rest) x fits e = absurd cc
+
+pub flag_again : (len : ℕ) (allow : Bool) (rest : List ℕ) → flag_at len (flag allow ∷ rest) ≡ Ok (allow, rest)
+unfolding flag_at
+flag_again len true rest = refl
+flag_again len false rest = refl
+
+-- ---- all that is left, a text
+
+whole_ok : (b : Bool) (why : BadRequest) (x y : List ℕ) → cond b (Ok x) (Err why) ≡ Ok y → (b ≡ true) × (x ≡ y)
+whole_ok true why x y e = (refl, cc)
+whole_ok false why x y e = absurd cc
+
+pub whole_text_takes : (len : ℕ) (bytes text : List ℕ) → whole_text_at len bytes ≡ Ok text → (bytes ≡ text) × (is_utf8 text ≡ true)
+unfolding whole_text_at
+whole_text_takes len bytes text e =
+    let t = whole_ok (is_utf8 bytes) (wrong len bytes) bytes text e in
+    (t.1, subst (λ (y : List ℕ). is_utf8 y ≡ true) t.1 t.0)
+
+pub whole_text_again : (len : ℕ) (text : List ℕ) → is_utf8 text ≡ true → whole_text_at len text ≡ Ok text
+unfolding whole_text_at
+whole_text_again len text is = rw is refl
 
 -- ---- the end
 

@@ -3,14 +3,19 @@
 ghost use Rattle.std.specs.Prelude.{◌≡◌, ◌≤◌, ℕ, List, length, Ok, IfOk, MatchResult};
 ghost use Rattle.dp_base.specs.Readers.{seen};
 ghost use Rattle.dp_wire.specs.declared.frame.TheConstants.{MAX_BODY};
-ghost use Rattle.dp_wire.specs.Request.{Request, request_of, IsBody};
+ghost use Rattle.dp_wire.specs.Chains.{chain_of};
+ghost use Rattle.dp_wire.specs.Purposes.{purposes_left};
+ghost use Rattle.dp_wire.specs.Request.{Request, request_of, purposes_in, IsBody};
 ghost use Rattle.dp_wire.specs.Reading.{request_at};
 
-use crate::reading::request_at;
+use crate::chain::ChainView;
+use crate::kinds::request_at;
+use crate::purposes::PurposeIter;
 use dp_base::KeyId;
 use thiserror::Error;
 
-/// A request, whose texts lie in the body that it was read from.
+/// A request, whose chain, texts and rest lie in the body that it was read from. `need` is how many
+/// elements at least the ring has that serves it; revoked keys open a payload where `allow_revoked`.
 #[derive(Clone, Copy, Debug, PartialEq, Eq)]
 pub enum RequestView<'a> {
     /// Asks for the listing of a ring of at least `need` elements.
@@ -33,6 +38,46 @@ pub enum RequestView<'a> {
         date: u64,
         reason: &'a str,
     },
+    /// Asks for a payload of the plaintext.
+    Protect {
+        need: u64,
+        chain: ChainView<'a>,
+        plain: &'a [u8],
+    },
+    /// Asks for the plaintext of a payload.
+    Unprotect {
+        need: u64,
+        allow_revoked: bool,
+        chain: ChainView<'a>,
+        payload: &'a [u8],
+    },
+    /// Asks for a payload of the text, as text itself.
+    ProtectText {
+        need: u64,
+        chain: ChainView<'a>,
+        text: &'a str,
+    },
+    /// Asks for the text of a payload, which is text itself.
+    UnprotectText {
+        need: u64,
+        allow_revoked: bool,
+        chain: ChainView<'a>,
+        text: &'a [u8],
+    },
+    /// Asks for a payload of the plaintext that expires at a moment, in ticks.
+    ProtectTimed {
+        need: u64,
+        chain: ChainView<'a>,
+        expiry: u64,
+        plain: &'a [u8],
+    },
+    /// Asks for the plaintext of a payload that expires.
+    UnprotectTimed {
+        need: u64,
+        allow_revoked: bool,
+        chain: ChainView<'a>,
+        payload: &'a [u8],
+    },
 }
 
 /// Bytes that are no request's body.
@@ -54,5 +99,24 @@ impl<'a> RequestView<'a> {
         ensures exact { seen request_of result ≡ request_at body.now }
     {
         request_at(body)
+    }
+
+    /// The purposes of the chain, from the general one to the special one. A kind without a chain
+    /// has none.
+    pub fn purposes(&self) -> PurposeIter<'a>
+        ensures { purposes_left result ≡ purposes_in (request_of self.now) }
+    {
+        match self {
+            RequestView::Ring { .. }
+            | RequestView::Roll { .. }
+            | RequestView::Revoke { .. }
+            | RequestView::RevokeBefore { .. } => PurposeIter::none(),
+            RequestView::Protect { chain, .. }
+            | RequestView::Unprotect { chain, .. }
+            | RequestView::ProtectText { chain, .. }
+            | RequestView::UnprotectText { chain, .. }
+            | RequestView::ProtectTimed { chain, .. }
+            | RequestView::UnprotectTimed { chain, .. } => chain.purposes(),
+        }
     }
 }

@@ -1,19 +1,23 @@
--- The lawful paths of a call that needs a ring: a pass that has seen the list own asks at a moment
--- for a ring with at least need elements.
-use Rattle.std.specs.Prelude.{◌≡◌, ℕ, ◌<◌, ◌≤◌, Bool, true, false, ◌&&◌, nat_le, max, is_none, List, [], ◌∷◌, ◌++◌, length, Option, None, Result, Ok, Err, IfSome, if◌then◌else◌}
+-- The ways of a call to its first ring: a pass that has seen the list own asks at a moment for a ring
+-- with at least need elements.
+use Rattle.std.specs.Prelude.{◌≡◌, ℕ, ◌<◌, ◌≤◌, Bool, true, false, ◌&&◌, nat_le, max, is_none, List, [], ◌∷◌, ◌++◌, length, Option, None, Result, Ok, Err, IfSome}
+use Rattle.dp_base.specs.declared.key_id.KeyId.{KeyId}
 use Rattle.key_elements.specs.declared.element.Element.{Element}
 use Rattle.key_elements.specs.Lists.{Agree, IsFirstDifference}
 use Rattle.key_ring.specs.Ring.{RingOf, ring_of, due}
-use Rattle.ring_world.specs.declared.step.Step.{Step}
-use Rattle.ring_world.specs.declared.step.Step.TheVariants.{Take, Busy, Give, PrivateRead, ReadFailed, WentBack, Answer}
+use Rattle.ring_world.specs.declared.step.Step.TheVariants.{Take, Busy, Give, PrivateRead, ReadFailed, WentBack}
 use Rattle.ring_world.specs.Course.{Course, stepped, led, closed, IsFront, IsCut}
 use Rattle.ring_world.specs.Lists.{longer, IsReadFrom}
-use Rattle.ring_world.specs.Flight.{Refusal, StoreFault, Shorter, Behind, Forked, Memory, Sight, sight_steps, Terms, Flight, IsFlight, gather_end, flight_course}
+use Rattle.ring_world.specs.Flight.{Refusal, StoreFault, Shorter, Forked, Memory, Sight, sight_steps, Terms, Flight, IsFlight, gather_end, flight_course}
 
 -- what a call is asked, by which pass
 pub record Call : Type 0 where
   pub terms : Terms
   pub need : ℕ
+  -- the key that the ring should hold, where one is named
+  pub missing : Option KeyId
+  -- the moment at which the node was opened
+  pub opened_at : ℕ
   -- the list that the pass has seen
   pub own : List Element
   -- what a pass that is alone at its node sees before the call; of others it isn't told
@@ -131,24 +135,3 @@ pub data TurnGives (c : Call) (result : Result RingOf Refusal) (d : Course) : Ty
 pub data PathGives (c : Call) (result : Result RingOf Refusal) (d : Course) : Type 0 where
   went : (p : Path) → IsPath c p → InLine c p → path_end c p ≡ result → d ≡ path_course c p → PathGives c result d
   stopped : (p : Path) → IsPath c p → result ≡ Err Memory → IsCut d (path_course c p) → PathGives c result d
-
--- by a ring that is long enough the call is answered
-abbrev pub answered : ℕ → Result RingOf Refusal → Result RingOf Refusal
-answered need (Ok r) = if nat_le need (length r.list) then Ok r else Err (Behind (length r.list) need)
-answered need (Err why) = Err why
-
-abbrev pub answer_steps : Result RingOf Refusal → List Step
-answer_steps (Ok r) = Answer ∷ []
-answer_steps (Err why) = []
-
--- the list that the pass has seen after a call: that of the ring that answers, also where it is
--- shorter than need
-abbrev pub own_after : List Element → Result RingOf Refusal → List Element
-own_after own (Ok r) = r.list
-own_after own (Err why) = own
-
--- the steps of a call are those of a lawful path, and the answer and the list seen afterwards are
--- those to which it comes; or, for want of memory, it was cut off
-pub data CallPath (c : Call) (result : Result RingOf Refusal) (own : List Element) (d : Course) : Type 0 where
-  complete : (p : Path) → IsPath c p → InLine c p → answered c.need (path_end c p) ≡ result → own ≡ own_after c.own (path_end c p) → d ≡ closed (path_course c p) (answer_steps (path_end c p)) → CallPath c result own d
-  cut_off : (p : Path) → IsPath c p → result ≡ Err Memory → own ≡ c.own → IsCut d (path_course c p) → CallPath c result own d

@@ -3,4 +3,4 @@
 
 mod step;
 
-pub use step::{MAX_STEPS, Step, StepList};
+pub use step::{MAX_STEPS, SECOND_TRY_SPAN, Step, StepList};

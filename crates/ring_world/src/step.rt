@@ -9,6 +9,12 @@ use std::marker::Model;
 /// The most steps of a call.
 pub const MAX_STEPS: usize = 24;
 
+/// How long after its opening a node tries once more for a key that is missing, in ticks: two
+/// minutes.
+pub const SECOND_TRY_SPAN: u64 = 1_200_000_000;
+
+const _: () = prove!(SECOND_TRY_SPAN == 1_200_000_000);
+
 /// One step of a call. Moments are ticks, and `front` is how many elements a list has.
 #[derive(Clone, Copy, Debug, PartialEq, Eq)]
 pub enum Step {

@@ -1,10 +1,11 @@
-use Rattle.std.proofs.Common.{◌∙◌, ℕ, List, IfSome, sym, subst, rules}
+use Rattle.std.proofs.Common.{◌∙◌, ℕ, IfSome, sym, subst, rules}
 use Rattle.dp_base.specs.Transfer.{Writes, WritesFront}
-use Rattle.dp_server.specs.declared.words.Command.TheVariants.{Show, Pipe}
+use Rattle.dp_server.specs.declared.words.Command.{Command}
+use Rattle.dp_server.specs.Commands.{Show, Pipe, form_of, IsForm}
 use Rattle.dp_session.specs.declared.status.Status.{Status}
 use Rattle.dp_server.specs.Show.{IsListed, Shows}
 use Rattle.dp_server.specs.Statuses.{IsAccepting}
-use Rattle.dp_server.proofs.Lawful.{same_moment}
+use Rattle.dp_server.proofs.Lawful.{texts, name_fits, same_moment, same_options}
 use Rattle.dp_server.proofs.run.run.Goals as goal
 
 pub returns-in-Some-Show-clause-done : goal.returns-in-Some-Show-clause-done
@@ -32,4 +33,17 @@ pub returns-in-None-clause-refused : goal.returns-in-None-clause-refused
 returns-in-None-clause-refused g c = λ m h. absurd (c.in-None.ensures.none.0 (search rules) (Show m, h))
 
 pub returns-in-None-clause-pipe : goal.returns-in-None-clause-pipe
-returns-in-None-clause-pipe g c = λ auto h. absurd (c.in-None.ensures.none.0 (search rules) (Pipe auto, h))
+returns-in-None-clause-pipe g c = λ auto app h. absurd (c.in-None.ensures.none.0 (search rules) (Pipe auto app, h))
+
+pub pipe-requires : goal.pipe-requires
+pipe-requires g c =
+    let form = subst (λ (f : Command). IsForm (texts c.args.words.now) (form_of f)) c.in-Some-Pipe.field-0-is c.in-Some-Pipe.ensures.value in
+    name_fits (texts c.args.words.now) c.in-Some-Pipe.options.auto c.in-Some-Pipe.options.app.now form
+
+pub returns-in-Some-Pipe-clause-pipe : goal.returns-in-Some-Pipe-clause-pipe
+returns-in-Some-Pipe-clause-pipe g c = λ auto app h.
+    let same = same_options c.command_of.result c.in-Some-Pipe.field-0 c.in-Some-Pipe.options auto app c.in-Some-Pipe.is c.in-Some-Pipe.field-0-is (c.command_of.ensures.only (Pipe auto app) h) in
+    rw (← same.0, ← same.1) c.pipe.ensures.pipes
+
+pub returns-in-None-clause-complete : goal.returns-in-None-clause-complete
+returns-in-None-clause-complete g c = λ auto app h. absurd (c.in-None.ensures.none.0 (search rules) (Pipe auto app, h))

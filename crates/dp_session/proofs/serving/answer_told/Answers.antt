@@ -9,7 +9,7 @@ pub of-drawn-requires : goal.of-drawn-requires
 of-drawn-requires g c =
     let s = c.answer_taped-answered.ensures.served in
     let none = ap (λ (d : DrawState). d.given) c.new-taped.ensures.draws in
-    let tells = tape_tells (seen request_of c.args.request) c.args.now c.answer_taped-answered.result s.0 c.bytes.result.now _ _ s.1 none c.bytes.ensures in
+    let tells = tape_tells _ (seen request_of c.args.request) c.args.now c.answer_taped-answered.result s.0 c.bytes.result.now _ _ s.1 none c.bytes.ensures in
     omega (arith, ap length tells.1, tells.2)
 
 pub returns-clause-served : goal.returns-clause-served
@@ -17,4 +17,4 @@ returns-clause-served g c =
     let s = c.answer_taped-answered.ensures.served in
     let bytes : List ℕ = c.bytes.result.now in
     let end = c.draw-1.given.1 (sym (c.answer_taped-answered.ensures.loan ∙ c.new-taped.ensures.loan)) in
-    rw c.of-drawn.ensures (told_served (seen request_of c.args.request) c.args.now c.answer_taped-answered.result s.0 bytes _ _ _ _ _ _ _ (g.D.Draw.draws c.args.draw.now) (g.D.Draw.draws c.answer_taped-answered.new.draw.draw.now) _ _ c.answer_taped-answered.new.draw.draw.ghost_name c.answer_taped-answered.new.draw.tape c.new-taped.ensures.draws refl (ap g.D.Draw.draws end) s.1 c.bytes.ensures)
+    rw c.of-drawn.ensures (told_served _ (seen request_of c.args.request) c.args.now c.answer_taped-answered.result s.0 bytes _ _ _ _ _ _ _ (g.D.Draw.draws c.args.draw.now) (g.D.Draw.draws c.answer_taped-answered.new.draw.draw.now) _ _ c.answer_taped-answered.new.draw.draw.ghost_name c.answer_taped-answered.new.draw.tape c.new-taped.ensures.draws refl (ap g.D.Draw.draws end) s.1 c.bytes.ensures)

@@ -1,13 +1,14 @@
 use Rattle.std.proofs.Common.{◌∙◌, length, None, refl, ap, arith}
 use Rattle.dp_base.specs.Counts.{one_more}
 use Rattle.dp_session.proofs.Freshness.{chain_fresh, chain_counts}
+use Rattle.dp_session.proofs.Shut.{are_shut}
 use Rattle.dp_session.proofs.Whole.{whole_input, spent_bad}
 use Rattle.dp_session.proofs.Sessions.{so_far-none, so_far-more, session_ends, session_spent, frame-bound, entries-more, ends-few, ends-spent, ends-bad}
 use Rattle.dp_session.proofs.session.serve_session.Goals as goal
 
 pub requests-init : goal.requests-init
 requests-init g c = record {
-  so_far = rw (c.new-entries.ensures.items, c.empty-list.ensures) (so_far-none _ _ _);
+  so_far = rw (c.new-entries.ensures.items, c.empty-list.ensures) (so_far-none _ _ _ _);
   free = c.requires.free;
   count = ap length c.new-entries.ensures.items;
   room = omega arith;
@@ -17,27 +18,27 @@ requests-init g c = record {
 
 pub requests-preserved : goal.requests-preserved
 requests-preserved g c = record {
-  so_far = so_far-more _ _ _ c.requests.place c.in-Ok.len c.requests.invariant.so_far c.in-Ok.ensures.ok;
+  so_far = so_far-more _ _ _ _ c.requests.place c.in-Ok.len c.requests.invariant.so_far c.in-Ok.ensures.ok;
   free = c.in-Ok.ensures.free;
-  count = omega (arith, entries-more _ _ c.in-Ok.len c.in-Ok.ensures.ok, c.requests.invariant.count);
-  room = omega (arith, frame-bound _ _ c.in-Ok.len c.in-Ok.ensures.ok, c.requests.invariant.room);
+  count = omega (arith, entries-more _ _ _ c.in-Ok.len c.in-Ok.ensures.ok, c.requests.invariant.count);
+  room = omega (arith, frame-bound _ _ _ c.in-Ok.len c.in-Ok.ensures.ok, c.requests.invariant.room);
   no_read_fault = c.in-Ok.ensures.no_read_fault ∙ c.requests.invariant.no_read_fault;
   no_write_fault = c.in-Ok.ensures.no_write_fault ∙ c.requests.invariant.no_write_fault;
 }
 
 pub overflow_add-place : goal.overflow_add-place
-overflow_add-place g c = omega (arith, c.requests.invariant.room, frame-bound _ _ c.in-Ok.len c.in-Ok.ensures.ok, c.requests.auto.counter-end)
+overflow_add-place g c = omega (arith, c.requests.invariant.room, frame-bound _ _ _ c.in-Ok.len c.in-Ok.ensures.ok, c.requests.auto.counter-end)
 
 pub returns-in-Err-clause-session : goal.returns-in-Err-clause-session
 returns-in-Err-clause-session g c =
-    rw (c.of.ensures, c.bad_place.ensures) (session_ends c.in-Err.halt.status c.in-Err.halt.bad _ _ _ c.requests.place c.requests.invariant.so_far c.in-Err.ensures.err)
+    rw (c.of.ensures, c.bad_place.ensures) (session_ends _ c.in-Err.halt.status c.in-Err.halt.bad _ _ _ c.requests.place c.requests.invariant.so_far c.in-Err.ensures.err)
 
 pub returns-in-Err-clause-few : goal.returns-in-Err-clause-few
 returns-in-Err-clause-few g c =
-    omega (arith, ap length c.of.ensures, ends-few c.in-Err.halt.status c.in-Err.halt.bad _ _ c.in-Err.ensures.err, c.requests.invariant.count, c.requests-test.true)
+    omega (arith, ap length c.of.ensures, ends-few _ c.in-Err.halt.status c.in-Err.halt.bad _ _ c.in-Err.ensures.err, c.requests.invariant.count, c.requests-test.true)
 
 pub returns-in-Err-clause-bad : goal.returns-in-Err-clause-bad
-returns-in-Err-clause-bad g c = rw c.bad_place.ensures (ends-bad c.in-Err.halt.status c.in-Err.halt.bad c.requests.place _ _ c.in-Err.ensures.err)
+returns-in-Err-clause-bad g c = rw c.bad_place.ensures (ends-bad _ c.in-Err.halt.status c.in-Err.halt.bad c.requests.place _ _ c.in-Err.ensures.err)
 
 pub returns-in-Err-clause-read_fault : goal.returns-in-Err-clause-read_fault
 returns-in-Err-clause-read_fault g c = λ e. c.in-Err.ensures.read_fault e ∙ ap one_more c.requests.invariant.no_read_fault
@@ -53,7 +54,7 @@ returns-in-Err-clause-no_write_fault g c = λ e. c.in-Err.ensures.no_write_fault
 
 pub returns-clause-session : goal.returns-clause-session
 returns-clause-session g c =
-    rw c.of-2.ensures (session_spent c.end_of_spent.result _ _ _ c.requests.place c.requests.invariant.so_far c.end_of_spent.ensures.status c.end_of_spent.ensures.ends)
+    rw c.of-2.ensures (session_spent _ c.end_of_spent.result _ _ _ c.requests.place c.requests.invariant.so_far c.end_of_spent.ensures.status c.end_of_spent.ensures.ends)
 
 pub returns-clause-few : goal.returns-clause-few
 returns-clause-few g c = omega (arith, ap length c.of-2.ensures, c.requests.invariant.count, c.requests.auto.counter-end)
@@ -91,8 +92,14 @@ returns-clause-counted g c =
 
 pub returns-in-Err-clause-whole : goal.returns-in-Err-clause-whole
 returns-in-Err-clause-whole g c =
-    whole_input c.in-Err.halt.status c.bad_place.result _ _ (returns-in-Err-clause-session g c) (returns-in-Err-clause-bad g c).1 (λ e. absurd (ends-spent c.in-Err.halt.status c.in-Err.halt.bad _ _ c.in-Err.ensures.err e))
+    whole_input _ c.in-Err.halt.status c.bad_place.result _ _ (returns-in-Err-clause-session g c) (returns-in-Err-clause-bad g c).1 (λ e. absurd (ends-spent _ c.in-Err.halt.status c.in-Err.halt.bad _ _ c.in-Err.ensures.err e))
 
 pub returns-clause-whole : goal.returns-clause-whole
 returns-clause-whole g c =
-    whole_input c.end_of_spent.result None _ _ (returns-clause-session g c) (λ e. absurd (spent_bad c.end_of_spent.result c.end_of_spent.ensures.status e)) (returns-clause-spent g c)
+    whole_input _ c.end_of_spent.result None _ _ (returns-clause-session g c) (λ e. absurd (spent_bad c.end_of_spent.result c.end_of_spent.ensures.status e)) (returns-clause-spent g c)
+
+pub returns-in-Err-clause-shut : goal.returns-in-Err-clause-shut
+returns-in-Err-clause-shut g c = λ bodies. are_shut _ bodies _ _ _ (returns-in-Err-clause-fresh g c)
+
+pub returns-clause-shut : goal.returns-clause-shut
+returns-clause-shut g c = λ bodies. are_shut _ bodies _ _ _ (returns-clause-fresh g c)

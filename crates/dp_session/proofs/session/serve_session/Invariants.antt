@@ -8,6 +8,7 @@ abbrev pub invariant-requests : goal.invariant-requests
 invariant-requests g l = record {
   so_far :
       SoFar
+      l.fn.setup.app
       (outside (g.I.Source.left l.fn.input) (g.O.Sink.written l.fn.output) (state (g.H.HostView.state l.fn.host) (g.R.Repo.store l.fn.repo) (g.D.Draw.draws l.fn.draw) (g.C.Clock.moments l.fn.clock)) [] [])
       (outside (g.I.Source.left l.input) (g.O.Sink.written l.output) (state (g.H.HostView.state l.host) (g.R.Repo.store l.repo) (g.D.Draw.draws l.draw) (g.C.Clock.moments l.clock)) l.entries.items l.list)
       l.place;

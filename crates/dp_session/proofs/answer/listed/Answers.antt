@@ -1,0 +1,10 @@
+use Rattle.std.proofs.Common.{◌∙◌, length, refl, ap}
+use Rattle.dp_wire.specs.Request.{Ring}
+use Rattle.dp_session.proofs.Responses.{dry_answer, by_listing}
+use Rattle.dp_session.proofs.answer.listed.Goals as goal
+
+pub returns : goal.returns
+returns c = λ app now need draws.
+    let ring = c.args.ring.now in
+    let count = c.len-front.ensures.value ∙ ap length c.list.ensures in
+    dry_answer app now (Ring need) ring refl c.by_ring.result draws _ refl (by_listing ring c.by_ring.result c.len-front.result c.as_str-listing.result _ count (c.as_str-listing.ensures.value ∙ c.in_ok-text.ensures) c.by_ring.ensures)

@@ -1,0 +1,125 @@
+//! What a request is answered by, and the frames of replies.
+
+ghost use Rattle.std.specs.Prelude.{◌≡◌, ◌≢◌, ◌<◌, ◌^◌, [], None, Some, length, IfOk, OnOk, MatchOption};
+ghost use Rattle.dp_node.specs.declared.error.NodeError.TheVariants as errors;
+ghost use Rattle.dp_wire.specs.declared.reply.Reply.TheVariants as replies;
+ghost use Rattle.dp_wire.specs.Frame.{frame};
+ghost use Rattle.dp_wire.specs.Replies.{reply_body};
+ghost use Rattle.dp_session.specs.declared.trace.Used.TheVariants as used;
+ghost use Rattle.dp_session.specs.Replies.{text_in, refusal_reply};
+ghost use Rattle.dp_session.specs.Responding.{IsByRing};
+ghost use Rattle.dp_session.specs.Serving.{IsAnswer};
+
+use crate::trace::Used;
+use dp_base::{Grows, Memory};
+use dp_node::NodeError;
+use dp_wire::{BadRequest, Reply, put_reply};
+use key_elements::ElementList;
+use key_ring::Ring;
+use std::alloc::Global;
+
+// More bytes than the text of any reply has: the longest listing has fewer, and so has what is made of
+// a request.
+const MAX_TEXT: usize = 2_400_000;
+
+/// What a request was answered by, its reply's frame, and the list that it brings to the trace.
+#[derive(Debug, Drop)]
+pub(crate) struct Response {
+    pub used: Used,
+    pub reply: Vec<u8>,
+    pub list: Option<ElementList>,
+}
+
+// The text in a reply.
+fn text_of<'a>(reply: &Reply<'a>) -> &'a [u8]
+    ensures { result.now ≡ text_in reply.now }
+{
+    match reply {
+        Reply::Ring { listing: text, .. }
+        | Reply::ProtectedText { text, .. }
+        | Reply::UnprotectedText { text, .. } => text.as_bytes(),
+        Reply::Protected { payload, .. } | Reply::ProtectedTimed { payload, .. } => payload,
+        Reply::Unprotected { plain, .. } | Reply::UnprotectedTimed { plain, .. } => plain,
+        _ => &[],
+    }
+}
+
+/// The frame of a reply. None has a text that is longer than its limit, so nothing is lost by taking
+/// one that would be for want of memory.
+pub(crate) fn framed(alloc: Global, reply: &Reply<'_>) -> Result<Vec<u8>, Memory>
+    ensures { IfOk result (λ bytes. bytes.items ≡ frame (reply_body reply.now)) }
+{
+    if text_of(reply).len() > MAX_TEXT {
+        return Err(Memory);
+    }
+    let mut bytes = Vec::new(alloc);
+    put_reply(alloc, reply, &mut bytes)?;
+    Ok(bytes)
+}
+
+// The reply that a call was refused; none where it wanted memory.
+fn reply_of(why: &NodeError) -> Option<Reply<'static>>
+    ensures { MatchOption result (why.now ≡ errors.Memory) (λ reply.
+        (reply_body reply ≡ refusal_reply why.now) × (why.now ≢ errors.Memory)) }
+{
+    match why {
+        NodeError::StoreFault => Some(Reply::StoreFault),
+        NodeError::DrawFault => Some(Reply::DrawFault),
+        NodeError::WentBack { had, got } => Some(Reply::WentBack {
+            had: *had,
+            got: *got,
+        }),
+        NodeError::Behind { have, need } => Some(Reply::Behind {
+            have: *have,
+            need: *need,
+        }),
+        NodeError::Forked(fork) => Some(Reply::Forked { at: fork.at }),
+        NodeError::Full { count } => Some(Reply::Full { count: *count }),
+        NodeError::BadDates => Some(Reply::BadDates),
+        NodeError::Memory => None,
+    }
+}
+
+/// The answer that a call was refused.
+pub(crate) fn refused(alloc: Global, why: NodeError) -> Result<Response, Memory>
+    ensures answer { IsAnswer (used.Refused why) (refusal_reply why) None result }
+    ensures known { OnOk result (why ≢ errors.Memory) }
+{
+    let reply = match reply_of(&why) {
+        Some(reply) => framed(alloc, &reply)?,
+        None => return Err(Memory),
+    };
+    Ok(Response {
+        used: Used::Refused(why),
+        reply,
+        list: None,
+    })
+}
+
+/// The answer to a body that is no request's.
+pub(crate) fn bad_request(alloc: Global, why: BadRequest) -> Result<Response, Memory>
+    ensures { IsAnswer (used.BadRequest why.place) (reply_body (replies.BadRequest why.place))
+        None result }
+{
+    let reply = framed(alloc, &Reply::BadRequest { place: why.place })?;
+    Ok(Response {
+        used: Used::BadRequest { place: why.place },
+        reply,
+        list: None,
+    })
+}
+
+/// An answer by the ring, whose list goes to the trace.
+pub(crate) fn by_ring(alloc: Global, ring: &Ring, reply: &Reply<'_>) -> Result<Response, Memory>
+    ensures { IsByRing ring.now (reply_body reply.now) result }
+{
+    let reply = framed(alloc, reply)?;
+    Ok(Response {
+        used: Used::Ring {
+            front: ring.list().len(),
+            made_at: ring.made_at(),
+        },
+        reply,
+        list: Some(ring.list().share()?),
+    })
+}

@@ -1,27 +1,33 @@
 #!/usr/bin/env python3
-"""A client of the key ring for Python programs, for the server to come: `dp_server pipe` doesn't read
-requests to protect and unprotect yet, and answers each with BadRequest.
+"""A client of the key ring for Python programs.
 
-    from protector import Protector, KeyRevoked
+    from protector import Protector, KeyRevoked, Tampered
 
     with Protector.start("./dp_server", "pipe") as ring:
         cookie = ring.protect_text(["shop", "cookie"], "user 7")
         print(ring.unprotect_text(["shop", "cookie"], cookie).plain)
 
 `Protector.start` runs the program and speaks to it over its standard streams; `Protector.connect` speaks
-to a server on a port of this machine. A refusal is raised as an exception of its name, and all are
-`Refused`. A client keeps the greatest length of a list that it was told, and asks with it: it never sees
-less than it saw before. It is for one thread.
+to a server on a port of this machine. A refusal is raised as an exception of its name, with the fields
+of the reply, and all are `Refused`; after one the session goes on. `Disconnected` says that it doesn't.
 
-Purposes go from the general one to the special one. Moments are ticks of 100 ns since 0001-01-01 UTC.
+A client keeps the greatest length of a list that it was told, and asks with it: it never sees less than
+it saw before. It is for one thread. The keys of a program that was started end with it.
+
+Purposes go from the general one to the special one; what is protected for some opens for the same ones
+alone. Moments are ticks of 100 ns since 0001-01-01 UTC, and `moment` makes one of a `datetime`.
 """
 
+import base64
 import socket
 import subprocess
 import uuid
 from collections import namedtuple
+from datetime import datetime, timedelta, timezone
 
 MAX_TICKS = 3155378975999999999
+# The longest body of a request.
+MAX_BODY = 1048576
 
 Opened = namedtuple("Opened", "plain revoked default_changed")
 OpenedTimed = namedtuple("OpenedTimed", "plain expiry revoked default_changed")
@@ -35,11 +41,15 @@ def refusal(name, text, *fields):
     """An exception of the name, whose fields are those of the reply."""
 
     def init(self, *values):
-        Exception.__init__(self, text, *values)
+        Exception.__init__(self, *values)
         for field, value in zip(fields, values):
             setattr(self, field, value)
 
-    return type(name, (Refused,), {"__init__": init, "__doc__": text})
+    def shown(self):
+        told = ", ".join(f"{field} {value}" for field, value in zip(fields, self.args))
+        return f"{text} ({told})" if told else text
+
+    return type(name, (Refused,), {"__init__": init, "__str__": shown, "__doc__": text})
 
 
 BadRequest = refusal("BadRequest", "a field of the request is wrong", "place")
@@ -98,6 +108,19 @@ REFUSALS = {
 WITH_FRONT = range(0x0A, 0x16)
 
 
+def moment(when):
+    """The moment of a `datetime` that knows its time zone."""
+    since = when - datetime(1, 1, 1, tzinfo=timezone.utc)
+    return since // timedelta(microseconds=1) * 10
+
+
+def key_of(payload):
+    """The id of the key that a payload, or its text, names: the one to be revoked to shut it."""
+    if isinstance(payload, str):
+        payload = base64.urlsafe_b64decode(payload + "=" * (-len(payload) % 4))
+    return uuid.UUID(bytes_le=payload[4:20])
+
+
 def be32(number):
     return number.to_bytes(4, "big")
 
@@ -121,6 +144,8 @@ def sized(text):
 
 
 def chain(purposes):
+    if isinstance(purposes, (str, bytes)):
+        raise TypeError("purposes are a list of texts")
     return be32(len(purposes)) + b"".join(sized(purpose) for purpose in purposes)
 
 
@@ -169,7 +194,11 @@ class Protector:
 
     def close(self):
         """Ends the session."""
-        self.writer.close()
+        try:
+            self.writer.close()
+        except OSError:
+            # The peer ended it before.
+            pass
         if self.closer is not None:
             self.closer()
         self.reader.close()
@@ -182,8 +211,14 @@ class Protector:
 
     def ask(self, body):
         """Sends the body of a request, and gives the reply's fields behind its front."""
-        self.writer.write(be32(len(body)) + body)
-        self.writer.flush()
+        if len(body) > MAX_BODY:
+            # The peer would end the session.
+            raise ValueError(f"a request of {len(body)} bytes is longer than {MAX_BODY}")
+        try:
+            self.writer.write(be32(len(body)) + body)
+            self.writer.flush()
+        except OSError as why:
+            raise Disconnected("the session ended") from why
         head = self.read(4)
         reply = Reply(self.read(int.from_bytes(head, "big")))
         code = reply.number(1)
@@ -199,7 +234,10 @@ class Protector:
         raise made(*fields)
 
     def read(self, count):
-        data = self.reader.read(count)
+        try:
+            data = self.reader.read(count)
+        except OSError as why:
+            raise Disconnected("the session ended") from why
         if data is None or len(data) < count:
             raise Disconnected("the session ended")
         return data

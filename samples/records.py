@@ -98,11 +98,16 @@ def id_of(text):
 ESCAPES = {'"': '"', "\\": "\\", "n": "\n", "r": "\r", "t": "\t"}
 
 
+def text_of(word):
+    """The text that a word in quotes stands for."""
+    return re.sub(r"\\(.)", lambda it: ESCAPES[it[1]], word[1:-1])
+
+
 def reason_of(word):
     """The reason that a word in quotes stands for."""
     if len(word) < 2 or word[0] != '"':
         raise Refused(f"the reason {word} isn't in quotes")
-    text = re.sub(r"\\(.)", lambda it: ESCAPES[it[1]], word[1:-1])
+    text = text_of(word)
     if len(text.encode("utf-8")) > MAX_REASON:
         raise Refused(f"the reason has more than {MAX_REASON} bytes")
     return text

@@ -10,6 +10,12 @@ quotes is a comment, and lines without a word are skipped. The forms of request 
     roll activation DATE expiration DATE alg CODE
     revoke ID reason "TEXT"
     revoke-before DATE reason "TEXT"
+    protect need N purposes "TEXT".. plain BYTES
+    unprotect need N [allow revoked] purposes "TEXT".. payload BYTES
+    protect-text need N purposes "TEXT".. text BYTES
+    unprotect-text need N [allow revoked] purposes "TEXT".. text BYTES
+    protect-timed need N purposes "TEXT".. expiry DATE plain BYTES
+    unprotect-timed need N [allow revoked] purposes "TEXT".. payload BYTES
 
 N           how many elements the list of the ring has to have at least, in decimal digits
 DATE        ticks of 100 ns since 0001-01-01 UTC in decimal digits; or now, now+DAYS or now-DAYS,
@@ -17,13 +23,18 @@ DATE        ticks of 100 ns since 0001-01-01 UTC in decimal digits; or now, now+
 CODE        the code of an algorithm, 0 to 255. 1 to 9 can be used
 ID          a key's id in hexadecimal with hyphens; or made, which stands for the key that was
             rolled last. Its id is known to samples/session.py alone
-TEXT        why, in quotes, as in samples/records.py
+TEXT        why or what for, in quotes, as in samples/records.py. Purposes go from the general one
+            to the special one
+BYTES       a text in quotes, or bytes in hexadecimal digits; or protected, which stands for the
+            payload that was protected last, or its text. It is known to samples/session.py alone
 
-A number only has to fit its field: whether its value is allowed is for the program to say. Each
-frame is written as soon as its line is read.
+A number only has to fit its field: whether its value is allowed is for the program to say, and so are
+the count and the lengths of purposes. Each frame is written as soon as its line is read.
 
 decode writes a line for each reply as soon as it is there, and behind a ring's its listing, two
-blanks before each line. A reply doesn't say which request it answers, so decode is given the text of
+blanks before each line. Opened bytes that are a text stand in quotes, others in hexadecimal digits;
+revoked and default-changed stand before them where the key is revoked, and where the ring protects
+with another. A reply doesn't say which request it answers, so decode is given the text of
 the requests. Without it the answer OK is told by its front and the bytes behind, as text where they
 are text. What is no request or reply is told by one line on standard error and the exit status 1.
 """
@@ -35,7 +46,7 @@ import uuid
 
 sys.dont_write_bytecode = True
 
-from records import Refused, id_of, number_of, reason_bytes, reason_of, words_of
+from records import Refused, id_of, number_of, quoted, reason_bytes, reason_of, text_of, words_of
 
 DAY = 864000000000
 # The moment at which Unix time begins.
@@ -47,7 +58,24 @@ def system_now():
     return UNIX_EPOCH + time.time_ns() // 100
 
 
-class Number:
+class Field:
+    """A field of a request or a reply."""
+
+    def take_words(self, name, left):
+        """The value that the words say, taken from the front of these. Those of a field begin with its
+        name, where that isn't marked by a *."""
+        if name[0] != "*" and (not left or left.pop(0) != name):
+            raise Refused(f"{name} is missing")
+        if not left:
+            raise Refused(f"the value of {name} is missing")
+        return self.of_word(name, left.pop(0))
+
+    def form(self, name):
+        """The words of the field in the form of a line."""
+        return name[1:] if name[0] == "*" else f"{name} {name.upper()}"
+
+
+class Number(Field):
     """A number in so many bytes, the high byte first."""
 
     def __init__(self, width):
@@ -85,7 +113,7 @@ class Date(Number):
         return moment
 
 
-class Id:
+class Id(Field):
     """A key's id, in the layout of a .NET Guid. None is that of the key that was rolled last."""
 
     def of_word(self, name, word):
@@ -103,7 +131,7 @@ class Id:
         return f" {name} {key_id}"
 
 
-class Reason:
+class Reason(Field):
     """A text with its length before it, in groups of 7 bits."""
 
     def of_word(self, name, word):
@@ -113,7 +141,97 @@ class Reason:
         return reason_bytes(reason)
 
 
-class Lines:
+class Purposes(Field):
+    """The number of purposes, and each with its length before it."""
+
+    def take_words(self, name, left):
+        if not left or left.pop(0) != name:
+            raise Refused(f"{name} is missing")
+        purposes = []
+        while left and left[0][0] == '"':
+            purposes.append(text_of(left.pop(0)))
+        return purposes
+
+    def form(self, name):
+        return f'{name} "TEXT"..'
+
+    def as_bytes(self, purposes):
+        count = len(purposes).to_bytes(4, "big")
+        return count + b"".join(reason_bytes(purpose) for purpose in purposes)
+
+
+class Allowed(Field):
+    """Whether revoked keys are allowed."""
+
+    def take_words(self, name, left):
+        if left[:2] != ["allow", "revoked"]:
+            return False
+        del left[:2]
+        return True
+
+    def form(self, name):
+        return "[allow revoked]"
+
+    def as_bytes(self, allowed):
+        return bytes([allowed])
+
+
+class Flags(Field):
+    """What is said of the key of a payload that was opened."""
+
+    def take(self, body):
+        return body.take(1)[0]
+
+    def as_text(self, name, flags):
+        words = [" revoked", " default-changed"]
+        return "".join(word for at, word in enumerate(words) if flags >> at & 1)
+
+
+class Bytes(Field):
+    """Bytes to the end of the body. None are those that were protected last."""
+
+    def of_word(self, name, word):
+        if word == "protected":
+            return None
+        if word[0] == '"':
+            return text_of(word).encode("utf-8")
+        if not re.fullmatch("([0-9a-fA-F]{2})*", word):
+            raise Refused(f"{name} is {word}, and neither in quotes nor hexadecimal")
+        return bytes.fromhex(word)
+
+    def form(self, name):
+        return f"{name} BYTES"
+
+    def as_bytes(self, data):
+        if data is None:
+            raise Refused("the payload that was protected isn't known; try samples/session.py")
+        return data
+
+    def take(self, body):
+        return body.take_rest()
+
+    def as_text(self, name, data):
+        return f" {name} {quoted_or_hex(data)}"
+
+
+def quoted_or_hex(data):
+    """The word that stands for bytes: in quotes where they are a text of one line."""
+    try:
+        text = data.decode("utf-8")
+    except UnicodeDecodeError:
+        return data.hex()
+    is_plain = all(it.isprintable() or it in "\n\r\t" for it in text)
+    return quoted(text) if is_plain else data.hex()
+
+
+class Payload(Bytes):
+    """A payload to the end of the body, in hexadecimal digits."""
+
+    def as_text(self, name, data):
+        return f" {name} {data.hex()}"
+
+
+class Lines(Field):
     """Lines of text to the end of the body."""
 
     def take(self, body):
@@ -128,6 +246,7 @@ class Lines:
 
 NUMBER, PLACE, CODE = Number(8), Number(4), Number(1)
 DATE, ID, REASON, LINES = Date(), Id(), Reason(), Lines()
+PURPOSES, ALLOWED, FLAGS, BYTES, PAYLOAD = Purposes(), Allowed(), Flags(), Bytes(), Payload()
 
 
 class Kind:
@@ -143,9 +262,11 @@ class Kind:
 
     def form(self):
         """The words of its line."""
-        words = (name[1:] if name[0] == "*" else f"{name} {name.upper()}" for name, _ in self.fields)
-        return " ".join([self.word, *words])
+        return " ".join([self.word, *(field.form(name) for name, field in self.fields)])
 
+
+FOR = [("need", NUMBER), ("purposes", PURPOSES)]
+OF = [("need", NUMBER), ("allowed", ALLOWED), ("purposes", PURPOSES)]
 
 # The kinds of request. A further kind is a line here, with a type of field where it needs a new one.
 KINDS = [
@@ -153,7 +274,20 @@ KINDS = [
     Kind(2, "roll", [("activation", DATE), ("expiration", DATE), ("alg", CODE)], [("id", ID)]),
     Kind(3, "revoke", [("*ID", ID), ("reason", REASON)], []),
     Kind(4, "revoke-before", [("*DATE", DATE), ("reason", REASON)], []),
+    Kind(5, "protect", [*FOR, ("plain", BYTES)], [("payload", PAYLOAD)]),
+    Kind(6, "unprotect", [*OF, ("payload", BYTES)], [("flags", FLAGS), ("plain", BYTES)]),
+    Kind(7, "protect-text", [*FOR, ("text", BYTES)], [("text", BYTES)]),
+    Kind(8, "unprotect-text", [*OF, ("text", BYTES)], [("flags", FLAGS), ("text", BYTES)]),
+    Kind(9, "protect-timed", [*FOR, ("expiry", DATE), ("plain", BYTES)], [("payload", PAYLOAD)]),
+    Kind(
+        10,
+        "unprotect-timed",
+        [*OF, ("payload", BYTES)],
+        [("flags", FLAGS), ("expiry", NUMBER), ("plain", BYTES)],
+    ),
 ]
+
+FRONT = ("front", NUMBER)
 
 # The refusals by their codes: the name, and what stands behind the code.
 REFUSALS = {
@@ -166,6 +300,18 @@ REFUSALS = {
     7: ("Forked", [("at", NUMBER)]),
     8: ("Full", [("count", NUMBER)]),
     9: ("BadDates", []),
+    10: ("BadHeader", [FRONT]),
+    11: ("BadVersion", [FRONT]),
+    12: ("KeyNotFound", [FRONT, ("id", ID)]),
+    13: ("KeyRevoked", [FRONT, ("id", ID)]),
+    14: ("KeyUnusable", [FRONT, ("id", ID)]),
+    15: ("Tampered", [FRONT]),
+    16: ("Invalid", [FRONT]),
+    17: ("Expired", [FRONT, ("at", NUMBER)]),
+    18: ("NoDefaultKey", [FRONT]),
+    19: ("TooLong", [FRONT, ("length", NUMBER)]),
+    20: ("BadText", [FRONT]),
+    21: ("NotText", [FRONT]),
 }
 
 
@@ -188,10 +334,12 @@ class Request:
                 return cls(kind, values_of(kind, words[1:]))
         raise Refused(f"{words[0]} begins no request")
 
-    def with_made(self, made):
-        """The same, with this id where that of the key rolled last is asked for."""
+    def with_last(self, made, protected):
+        """The same, with this id and this payload where those of the key that was rolled last and of
+        what was protected last are asked for."""
+        last = {ID: made, BYTES: protected}
         fields = zip(self.kind.fields, self.values)
-        values = [made if kind is ID and value is None else value for (_, kind), value in fields]
+        values = [last.get(field) if value is None else value for (_, field), value in fields]
         return Request(self.kind, values)
 
     def as_bytes(self):
@@ -202,18 +350,13 @@ class Request:
 
 def values_of(kind, words):
     """The values that the words of a line have behind its first."""
-    values = []
     left = list(words)
-    for name, field in kind.fields:
-        if name[0] != "*" and left[:1] == [name]:
-            left.pop(0)
-        elif name[0] != "*":
-            left = []
-        if not left:
-            raise Refused(f"the form is {kind.form()}")
-        values.append(field.of_word(name.strip("*"), left.pop(0)))
+    try:
+        values = [field.take_words(name, left) for name, field in kind.fields]
+    except Refused as why:
+        raise Refused(f"{why}; the form is {kind.form()}")
     if left:
-        raise Refused(f"the form is {kind.form()}")
+        raise Refused(f"{left[0]} is too much; the form is {kind.form()}")
     return values
 
 
@@ -257,7 +400,7 @@ class Reply:
         code = CODE.take(body)
         if code == 0:
             fields = kind.answer if kind else rest_of(body.data[8:])
-            name, fields = "OK", [("front", NUMBER), *fields]
+            name, fields = "OK", [FRONT, *fields]
         elif code in REFUSALS:
             name, fields = REFUSALS[code]
         else:
@@ -279,14 +422,11 @@ class Reply:
         return f"{kind.word}: {self.name}{told}" if kind else f"{self.name}{told}"
 
 
-class Hex:
-    """Bytes to the end of the body."""
-
-    def take(self, body):
-        return body.take_rest()
+class Hex(Payload):
+    """Bytes to the end of the body, in a reply to a request that isn't known."""
 
     def as_text(self, name, data):
-        return f" then {data.hex()}"
+        return super().as_text("then", data)
 
 
 def rest_of(data):

@@ -5,7 +5,8 @@ reply to the one before it has come, and prints every reply.
     samples/session.py [WORDS] < samples/session.txt
 
 starts ./dp_server pipe WORDS, as with --no-auto. The text is that of samples/requests.py, and may be
-typed too; the word made stands for the id of the key that was rolled last. The exit status is that of
+typed too; the word made stands for the id of the key that was rolled last, and the word protected for
+the payload that was protected last, or its text. The exit status is that of
 the program, and 1 where the text or a reply is none.
 """
 
@@ -34,19 +35,21 @@ def ask(program, replies, request):
 def talk(program, lines, say, echo):
     """Asks for each line of the text, and says what comes."""
     replies = bodies_of(program.stdout)
-    made = None
+    made = protected = None
     for number, line in enumerate(lines, 1):
         request = request_of(number, line)
         if request is None:
             continue
         if echo:
             say(f"> {line.decode().strip()}")
-        reply = ask(program, replies, request.with_made(made))
+        reply = ask(program, replies, request.with_last(made, protected))
         if reply is None:
             raise Refused(f"line {number}: no reply came")
         say(reply.as_text(request.kind))
         if request.kind.word == "roll":
             made = reply.value("id") or made
+        if request.kind.word.startswith("protect"):
+            protected = reply.value("payload") or reply.value("text") or protected
 
 
 def play(command, lines, say, echo=True):

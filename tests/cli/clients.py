@@ -10,9 +10,11 @@ import tempfile
 import uuid
 
 from cases import TOP, small_id
+from count import Skipped
 from listing import DAY
 from session import play
-from sessions import Session, clock, frame, revoke, revoke_before, ring, roll
+from sessions import Session, clock
+from wire import frame, revoke, revoke_before, ring, roll
 
 # How long a reply may take, and how long it is watched that none comes.
 SECONDS = 20
@@ -26,9 +28,9 @@ class NoReply(Exception):
 class Client:
     """A program that is asked one request at a time."""
 
-    def __init__(self, program, *words):
+    def __init__(self, program, *words, before=()):
         self.process = subprocess.Popen(
-            [program, "pipe", *words],
+            [*before, program, "pipe", *words],
             stdin=subprocess.PIPE,
             stdout=subprocess.PIPE,
             stderr=subprocess.PIPE,
@@ -154,14 +156,13 @@ NO_BYTES = 'mount --bind /dev/null /dev/urandom && exec "$0" "$@"'
 
 
 def no_random_bytes(program):
-    """Without random bytes for the first ring the session ends before it reads. Skipped where this
-    system doesn't let a process have a view of its own of /dev/urandom."""
+    """Without random bytes for the first ring the session ends before it reads."""
     alone = ["unshare", "--map-root-user", "--mount", "sh", "-c", NO_BYTES]
     try:
         if subprocess.run([*alone, "true"], stderr=subprocess.DEVNULL).returncode != 0:
-            return []
+            raise Skipped("no process may have a view of its own of /dev/urandom here")
     except OSError:
-        return []
+        raise Skipped("there is no unshare")
     faults = []
     for words in (["pipe"], ["pipe", "--no-auto"]):
         told = subprocess.run(
@@ -177,8 +178,9 @@ def no_random_bytes(program):
     return faults
 
 
-# What is printed of the sample: T stands for a moment, I for the key's id.
-SAMPLE = """\
+# What is printed of the samples: T stands for a moment, I for the key's id, C for the cookie.
+SAMPLES = {
+    "session": """\
 > ring need 0
 ring: OK front 0
   ring 0 elements at T
@@ -203,13 +205,30 @@ ring: OK front 2
   key I created T activates T expires T alg 3 revoked
   default none
   renew yes
-"""
+""",
+    "cookie": """\
+> roll activation now expiration now+90 alg 3
+roll: OK front 1 id I
+> protect-text need 1 purposes "shop" "cookie" text "user 7"
+protect-text: OK front 1 text "C"
+> unprotect-text need 1 purposes "shop" "cookie" text protected
+unprotect-text: OK front 1 text "user 7"
+> unprotect-text need 1 purposes "shop" "ticket" text protected
+unprotect-text: Tampered front 1
+> revoke made reason "lost laptop"
+revoke: OK front 2
+> unprotect-text need 2 purposes "shop" "cookie" text protected
+unprotect-text: KeyRevoked front 2 id I
+> unprotect-text need 2 allow revoked purposes "shop" "cookie" text protected
+unprotect-text: OK front 2 revoked default-changed text "user 7"
+""",
+}
 
 
-def sample_session(program):
-    """samples/session.txt, played by samples/session.py."""
+def sample_session(program, name):
+    """A sample of a session, played by samples/session.py."""
     said = []
-    path = os.path.join(TOP, "samples", "session.txt")
+    path = os.path.join(TOP, "samples", f"{name}.txt")
     with open(path, "rb") as lines:
         status = play([program, "pipe", "--no-auto"], lines, said.append)
     text = "".join(f"{line}\n" for line in said)
@@ -217,9 +236,10 @@ def sample_session(program):
     for key_id in ids:
         text = text.replace(key_id, "I")
     text = re.sub(r"\b[0-9]{18}\b", "T", text)
+    text = re.sub(r'"CfDJ8[-\w]{129}"', '"C"', text)
     faults = [] if status == 0 else [f"the status is {status}"]
     faults += [] if len(ids) == 1 else [f"the ids are {ids}"]
-    return faults + ([] if text == SAMPLE else [f"what is printed is {text!r}"])
+    return faults + ([] if text == SAMPLES[name] else [f"what is printed is {text!r}"])
 
 
 REQUESTS = """\
@@ -230,6 +250,12 @@ roll activation 638000000000000000 expiration 638000000000000000 alg 3
 revoke 00000000-0000-4000-8000-00000000000b reason "lost laptop" # for good
 revoke-before 638043200000000000 reason "a \\"leak\\""
 ring need 9
+protect need 0 purposes "a" plain ""
+unprotect need 0 allow revoked purposes "a" "bc" payload 09F0c9
+protect-text need 9 purposes text "\u00e9"
+unprotect-text need 0 purposes "" text "CfDJ8"
+protect-timed need 0 purposes "a" expiry 5 plain 00ff
+unprotect-timed need 0 purposes "a" payload ""
 roll activation 1 expiration 2 alg 10
 """
 # Their frames, and the replies to them but for the moment T.
@@ -240,6 +266,12 @@ FRAMES = bytes.fromhex(
     "0B 6C 6F 73 74 20 6C 61 70 74 6F 70"
     "00 00 00 12 04 08 DA C8 E8 EF 5A 80 00 08 61 20 22 6C 65 61 6B 22"
     "00 00 00 09 01 00 00 00 00 00 00 00 09"
+    "00 00 00 0F 05 00 00 00 00 00 00 00 00 00 00 00 01 01 61"
+    "00 00 00 16 06 00 00 00 00 00 00 00 00 01 00 00 00 02 01 61 02 62 63 09 F0 C9"
+    "00 00 00 0F 07 00 00 00 00 00 00 00 09 00 00 00 00 C3 A9"
+    "00 00 00 14 08 00 00 00 00 00 00 00 00 00 00 00 00 01 00 43 66 44 4A 38"
+    "00 00 00 19 09 00 00 00 00 00 00 00 00 00 00 00 01 01 61 00 00 00 00 00 00 00 05 00 FF"
+    "00 00 00 10 0A 00 00 00 00 00 00 00 00 00 00 00 00 01 01 61"
     "00 00 00 12 02 00 00 00 00 00 00 00 01 00 00 00 00 00 00 00 02 0A"
 )
 LISTING = "  ring 0 elements at T\n  mass none\n  default none\n  renew yes\n"
@@ -249,6 +281,12 @@ ring: OK front 0
 revoke: OK front 1
 revoke-before: OK front 2
 ring: Behind have 2 need 9
+protect: NoDefaultKey front 2
+unprotect: BadHeader front 2
+protect-text: BadRequest place 9
+unprotect-text: BadText front 2
+protect-timed: NoDefaultKey front 2
+unprotect-timed: BadHeader front 2
 roll: BadRequest place 17
 """
 LAST_REPLY = bytes.fromhex("00 00 00 05 01 00 00 00 11")
@@ -259,8 +297,56 @@ OK front 0
 OK front 1
 OK front 2
 Behind have 2 need 9
+NoDefaultKey front 2
+BadHeader front 2
+BadRequest place 9
+BadText front 2
+NoDefaultKey front 2
+BadHeader front 2
 BadRequest place 17
 """
+
+# Requests, replies in literal bytes that the system needn't give, and what stands for them.
+ID_BYTES = "80 9C 81 0C 19 66 19 40 95 36 53 F8 AA FF EE 57"
+ID_TEXT = "0c819c80-6619-4019-9536-53f8aaffee57"
+ONE, TWO = "00 00 00 00 00 00 00 01", "00 00 00 00 00 00 00 02"
+PROTECTING = [
+    ('protect need 0 purposes "a" plain ""', f"00 {ONE} 09 F0", "OK front 1 payload 09f0"),
+    ('unprotect need 0 purposes "a" payload 09', f"00 {ONE} 00", 'OK front 1 plain ""'),
+    ('unprotect need 0 purposes "a" payload 09', f"00 {TWO} 01 FF", "OK front 2 revoked plain ff"),
+    (
+        'unprotect need 0 purposes "a" payload 09',
+        f"00 {TWO} 02 61 0A",
+        'OK front 2 default-changed plain "a\\n"',
+    ),
+    ('protect-text need 0 purposes "a" text ""', f"00 {ONE} 43 66", 'OK front 1 text "Cf"'),
+    (
+        'unprotect-text need 0 purposes "a" text "Cf"',
+        f"00 {TWO} 03 C3 A9",
+        'OK front 2 revoked default-changed text "\u00e9"',
+    ),
+    ('protect-timed need 0 purposes "a" expiry 5 plain ""', f"00 {ONE} 09", "OK front 1 payload 09"),
+    (
+        'unprotect-timed need 0 purposes "a" payload 09',
+        f"00 {ONE} 00 {TWO} 00",
+        "OK front 1 expiry 2 plain 00",
+    ),
+    ("ring need 0", "02", "NO_MEMORY"),
+    ("ring need 0", "03", "StoreFault"),
+    ("ring need 0", "04", "DrawFault"),
+    ("ring need 0", f"05 {TWO} {ONE}", "WentBack had 2 got 1"),
+    ("ring need 0", f"07 {ONE}", "Forked at 1"),
+    ("ring need 0", f"08 {TWO}", "Full count 2"),
+    ("ring need 0", f"0B {ONE}", "BadVersion front 1"),
+    ("ring need 0", f"0C {ONE} {ID_BYTES}", f"KeyNotFound front 1 id {ID_TEXT}"),
+    ("ring need 0", f"0D {ONE} {ID_BYTES}", f"KeyRevoked front 1 id {ID_TEXT}"),
+    ("ring need 0", f"0E {ONE} {ID_BYTES}", f"KeyUnusable front 1 id {ID_TEXT}"),
+    ("ring need 0", f"0F {ONE}", "Tampered front 1"),
+    ("ring need 0", f"10 {ONE}", "Invalid front 1"),
+    ("ring need 0", f"11 {ONE} {TWO}", "Expired front 1 at 2"),
+    ("ring need 0", f"13 {ONE} {TWO}", "TooLong front 1 length 2"),
+    ("ring need 0", f"15 {ONE}", "NotText front 1"),
+]
 
 
 def script(word, given, *more):
@@ -295,6 +381,18 @@ def requests_and_replies(program):
     return faults
 
 
+def replies_of_all_kinds(_):
+    """Replies in literal bytes through samples/requests.py."""
+    requests = "".join(f"{line}\n" for line, _, _ in PROTECTING)
+    replies = b"".join(frame(bytes.fromhex(reply)) for _, reply, _ in PROTECTING)
+    wanted = "".join(f"{line.split()[0]}: {text}\n" for line, _, text in PROTECTING)
+    with tempfile.NamedTemporaryFile(suffix=".txt") as mine:
+        mine.write(requests.encode())
+        mine.flush()
+        told = script("decode", replies, mine.name)
+    return [] if (told.returncode, told.stdout) == (0, wanted.encode()) else [f"decode gives {told}"]
+
+
 def bad_texts(_):
     """Texts that are no requests are refused with the number of their line."""
     faults = []
@@ -316,6 +414,22 @@ def bad_texts(_):
         "revoke-before 5 reason leak",
         "revoke-before 5 reason \"leak",
         "show 1000",
+        'protect purposes "a" plain ""',
+        'protect need 0 plain ""',
+        'protect need 0 purposes a plain ""',
+        'protect need 0 purposes "a"',
+        'protect need 0 purposes "a" plain',
+        'protect need 0 purposes "a" plain 0',
+        'protect need 0 purposes "a" plain text',
+        'protect need 0 purposes "a" plain protected',
+        'protect need 0 purposes "a" plain "" ""',
+        'protect need 0 allow revoked purposes "a" plain ""',
+        'unprotect need 0 allow purposes "a" payload ""',
+        'unprotect need 0 revoked purposes "a" payload ""',
+        'unprotect need 0 purposes "a" allow revoked payload ""',
+        'unprotect-text need 0 purposes "a" text CfDJ8',
+        'protect-timed need 0 purposes "a" plain ""',
+        'protect-timed need 0 purposes "a" expiry soon plain ""',
     ]:
         told = script("encode", f"# a text\nring need 0\n{line}\n".encode())
         is_first = told.stdout == frame(ring())
@@ -335,7 +449,9 @@ def all_clients():
         ("a client that sends frames in two pieces", pieces),
         ("a client that sends a bad frame", bad_frame),
         ("a session without random bytes", no_random_bytes),
-        ("samples/session.txt", sample_session),
+        ("samples/session.txt", lambda it: sample_session(it, "session")),
+        ("samples/cookie.txt", lambda it: sample_session(it, "cookie")),
         ("samples/requests.py there and back", requests_and_replies),
+        ("samples/requests.py on replies of all kinds", replies_of_all_kinds),
         ("samples/requests.py on what are no requests", bad_texts),
     ]

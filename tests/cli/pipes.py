@@ -6,23 +6,29 @@ import uuid
 from cases import PLAIN, READING_FAILED, WRITING_FAILED, Case, bad_words, day, small_id
 from listing import DAY
 from records import MAX_TICKS
-from sessions import (
-    Session,
+from sessions import Session, clock
+from wire import (
+    MAX_BODY,
     bad_request,
     bodies_of,
-    clock,
     frame,
     number,
+    protect,
+    protect_text,
+    protect_timed,
+    refused as refusal,
     revoke,
     revoke_before,
     ring,
     roll,
+    unprotect,
+    unprotect_text,
+    unprotect_timed,
 )
 
 NO_AUTO = ["pipe", "--no-auto"]
 SPENT = "dp_server: too many requests in one session\n"
 MAX_REQUESTS = 16384
-MAX_BODY = 1048576
 
 # ROLL of the dates day(0) and day(90) and code 3, in literal bytes.
 ROLL = bytes.fromhex("00 00 00 12 02 08 DA A1 9E A6 B3 00 00 08 DA E8 57 8F E0 80 00 03")
@@ -31,6 +37,10 @@ RING = bytes.fromhex("00 00 00 09 01 00 00 00 00 00 00 00 00")
 RING_9 = bytes.fromhex("00 00 00 09 01 00 00 00 00 00 00 00 09")
 EQUAL_DATES = bytes.fromhex("00 00 00 12 02 08 DA A1 9E A6 B3 00 00 08 DA A1 9E A6 B3 00 00 03")
 BAD_DATES = bytes.fromhex("00 00 00 01 09")
+# Behind: 1 element is there where 9 are needed.
+BEHIND_1 = bytes.fromhex("06 00 00 00 00 00 00 00 01 00 00 00 00 00 00 00 09")
+# PROTECT of nothing for the purpose a.
+PROTECT = bytes.fromhex("00 00 00 0F 05 00 00 00 00 00 00 00 00 00 00 00 01 01 61")
 
 
 def answers(checks, most=None):
@@ -63,6 +73,12 @@ def lawful(bodies, auto=False):
     return [lambda reply, it=it: session.fault_of(it, reply) for it in bodies]
 
 
+def first_protect(reply):
+    """What is wrong with the reply to a PROTECT of nothing by the first key, of code 3."""
+    head = bytes.fromhex("00 00 00 00 00 00 00 00 01 09 F0 C9 F0")
+    return None if len(reply) == 109 and reply[:13] == head else reply.hex()
+
+
 def ended(name, given, checks, status=0, error="", words=None, shell=PLAIN):
     """The session ends so, and its replies pass the checks."""
     return Case(name, words or NO_AUTO, given, status, answers(checks), error, shell)
@@ -92,7 +108,6 @@ def first_roll(reply):
 
 def worked():
     """The worked requests, in literal bytes."""
-    behind = bytes.fromhex("06 00 00 00 00 00 00 00 01 00 00 00 00 00 00 00 09")
     none = bytes.fromhex("06 00 00 00 00 00 00 00 00 00 00 00 00 00 00 00 09")
     foreign = bytes.fromhex("00 00 00 01 0C")
     longer = bytes.fromhex("00 00 00 0A 01 00 00 00 00 00 00 00 00 00")
@@ -103,13 +118,21 @@ def worked():
         ended("no requests and no room to write", b"", [], shell=f"{PLAIN} >/dev/full"),
         ended("a first key", ROLL, [first_roll]),
         ended("need 9 of no elements", RING_9, [none]),
-        ended("need 9 of one element", ROLL + RING_9, [first_roll, behind]),
-        ended("need 9 with automatic keys", RING_9, [behind], words=["pipe"]),
+        ended("need 9 of one element", ROLL + RING_9, [first_roll, BEHIND_1]),
+        ended("need 9 with automatic keys", RING_9, [BEHIND_1], words=["pipe"]),
         ended("a foreign kind", foreign, [place_0]),
         ended("a byte behind a need", longer, [place_9]),
         ended("equal dates", EQUAL_DATES, [BAD_DATES[4:]]),
         Case("equal dates, whole", NO_AUTO, EQUAL_DATES, 0, written(BAD_DATES), "", PLAIN),
         ended("pieces of one byte", ROLL, [first_roll], shell='dd bs=1 status=none | "$0" "$@"'),
+        ended("nothing protected", ROLL + PROTECT, [first_roll, first_protect]),
+        ended(
+            "nothing protected, in pieces of one byte",
+            ROLL + PROTECT,
+            [first_roll, first_protect],
+            shell='dd bs=1 status=none | "$0" "$@"',
+        ),
+        ended("nothing to protect with", PROTECT, [bytes.fromhex("12 00 00 00 00 00 00 00 00")]),
     ]
 
 
@@ -244,8 +267,24 @@ def frames():
     for count in range(1, len(ROLL)):
         given = RING + ROLL[:count]
         made.append(refused(f"a second frame cut after {count} bytes", given, 13, lawful([ring()])))
+    purposes = [b"a"]
+    for body in [
+        protect(purposes, b"p"),
+        unprotect(purposes, b"\x09"),
+        protect_text(purposes, b"t"),
+        unprotect_text(purposes, b"C"),
+        protect_timed(purposes, 5, b"p"),
+        unprotect_timed(purposes, b"\x09"),
+    ]:
+        whole = frame(body)
+        for count in range(1, len(whole)):
+            given = ROLL + PROTECT + whole[:count]
+            name = f"a frame of kind {body[0]} cut after {count} bytes"
+            made.append(refused(name, given, 41, [first_roll, first_protect]))
     for length in (0, MAX_BODY + 1, 1 << 31, (1 << 32) - 1):
         head = length.to_bytes(4, "big")
+        given = ROLL + PROTECT + head
+        made.append(refused(f"length {length} after PROTECT", given, 41, [first_roll, first_protect]))
         made.append(refused(f"a frame of length {length}", head, 0))
         made.append(refused(f"length {length}, and a frame", head + ROLL, 0))
         both = [first_roll, BAD_DATES[4:]]
@@ -298,7 +337,13 @@ def slow_cases():
     placed = [b"\0" + number(it + 2) for it in range(MAX_REQUESTS - 1)]
     full = bytes.fromhex("08 00 00 00 00 00 00 40 00")
     given = filling + ROLL
-    return [ended("a full repository", given, [*placed, full], words=["pipe"])]
+    # Every key that is there or comes is revoked, and there is no room for one that does.
+    revoked = filling[: -len(frame(revoke(small_id("a"))))] + frame(revoke_before(MAX_TICKS))
+    no_key = refusal(0x12, MAX_REQUESTS)
+    return [
+        ended("a full repository", given, [*placed, full], words=["pipe"]),
+        ended("a full repository without a key", revoked + PROTECT, [*placed, no_key], words=["pipe"]),
+    ]
 
 
 def streams():
@@ -372,6 +417,18 @@ def words():
         ["pipe", "-no-auto"],
         ["pipe", "no-auto"],
         ["pipe", " --no-auto"],
+        ["pipe", "--app"],
+        ["pipe", "--app", ""],
+        ["pipe", "--app", "-"],
+        ["pipe", "--app", "--no-auto"],
+        ["pipe", "--app", "n" * 257],
+        ["pipe", "--app", "n", "--app", "n"],
+        ["pipe", "--app", "n", "n"],
+        ["pipe", "--app=n"],
+        ["pipe", "--ap", "n"],
+        ["pipe", "-app", "n"],
+        ["pipe", "--app", b"\xff"],
+        ["--app", "n", "pipe"],
         ["pipe", "--"],
         ["pipe", "--", "--no-auto"],
         ["pipe", "-"],
@@ -395,8 +452,46 @@ def words():
         ["pipe", "--no-auto", b"\xff"],
         [b"pipe\xff"],
         ["pipe"] * 1000,
+        ["pipe", "--app"],
+        ["pipe", "--app", ""],
+        ["pipe", "--app", "-"],
+        ["pipe", "--app", "-shop"],
+        ["pipe", "--app", "--no-auto"],
+        ["pipe", "--app", "--app"],
+        ["pipe", "--app", "n" * 257],
+        ["pipe", "--app", "\u00e9" * 129],
+        ["pipe", "--app", "n" * 100000],
+        ["pipe", "--app", b"\xff"],
+        ["pipe", "--app", b"shop\xc3"],
+        ["pipe", "--app", "shop", "--app", "shop"],
+        ["pipe", "--app", "shop", "--no-auto", "--app", "shop"],
+        ["pipe", "--app", "shop", "--app"],
+        ["pipe", "--app", "shop", "--no-auto", "--no-auto"],
+        ["pipe", "--no-auto", "--app", "shop", "--no-auto"],
+        ["pipe", "--no-auto", "--app"],
+        ["pipe", "--app", "shop", "x"],
+        ["pipe", "--app", "shop", ""],
+        ["pipe", "shop"],
+        ["pipe", "shop", "--app"],
+        ["pipe", "--app=shop"],
+        ["pipe", "--ap", "shop"],
+        ["pipe", "--apps", "shop"],
+        ["pipe", "--App", "shop"],
+        ["pipe", "-app", "shop"],
+        ["pipe", "--app shop"],
+        ["pipe", "--", "--app", "shop"],
+        ["--app", "shop", "pipe"],
+        ["--app", "shop"],
+        ["show", "1000", "--app", "shop"],
     ]
-    return [bad_words(it, given=ROLL) for it in given]
+    lawful = ["n" * 256, "\u00e9" * 128, "s", "pipe", "show", " ", "a shop", "=", "=--no-auto", "\n"]
+    made = [bad_words(it, given=ROLL) for it in given]
+    for name in lawful:
+        for words in (["pipe", "--app", name, "--no-auto"], ["pipe", "--no-auto", "--app", name]):
+            made.append(ended(f"a name of {len(name)} characters", ROLL, [first_roll], words=words))
+        words = ["pipe", "--app", name]
+        made.append(ended(f"{len(name)} characters and keys", RING_9, [BEHIND_1], words=words))
+    return made
 
 
 def pipe_cases():

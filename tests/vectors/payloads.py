@@ -7,6 +7,7 @@ opens under each of the nine codes, and turns each bit of a payload.
 """
 
 import base64
+import functools
 import hashlib
 import hmac
 import sys
@@ -95,6 +96,7 @@ def enciphered(code, key, iv, plain):
     return sealer.update(padded) + sealer.finalize(), b""
 
 
+@functools.lru_cache(maxsize=None)
 def context_header(code):
     """What the keys of each body are derived with besides its modifier."""
     key_bytes, name = ALGORITHMS[code]
@@ -217,7 +219,6 @@ def check():
         except Tampered:
             continue
         raise AssertionError(bit)
-    print("payloads: nine codes, both ways")
 
 
 if __name__ == "__main__":
@@ -225,3 +226,4 @@ if __name__ == "__main__":
         print("payloads: skipped, since Python has no cryptography")
         sys.exit(0)
     check()
+    print("payloads: nine codes, both ways")

@@ -4,7 +4,7 @@ use Rattle.std.specs.Int.{w32, from_be_bytes}
 use Rattle.aes_block.specs.Field.{times}
 use Rattle.aes_block.specs.Cipher.{product_at, round_key}
 
--- the bytes of a state that is four words, one for each column, whose high byte is in row 0
+-- the bytes of a state that is four words, one for each column, whose high byte is in the first row
 abbrev pub state_bytes : List ℕ → List ℕ
 state_bytes columns = round_key columns 0
 

@@ -1,5 +1,5 @@
 //! The rounds of the cipher (FIPS 197, 5.1) and of the equivalent inverse cipher (5.3.5) over a
-//! schedule. A state is four words, one for each column, whose high byte is in row 0.
+//! schedule. A state is four words, one for each column, whose high byte is in the first row.
 //!
 //! A round here goes from before one AddRoundKey to before the next, and two rounds make a turn: a turn
 //! that ends with the key has the compiler pack the columns into one vector, which costs a third.

@@ -205,7 +205,7 @@ fn find<W, H: Host<W>, R: Repo<W>, D: Draw>(
 // 8. Where a key is due, keys are made automatically and there is room, draw eighty bytes for a key
 //    and append it. Where the repository is full, go on without it.
 // 9. Publish the ring of the list, give the turn back, and answer by it.
-// 10. Where a call of the flight fails or finds fewer elements, publish the ring of step 5,
+// 10. Where a call of the flight fails or finds fewer elements, publish the ring last looked at,
 //     extended, give the turn back, and answer the refusal.
 // 11. The pass has seen the list of the ring that answers. Where that is shorter than what was
 //     needed, the answer says so.

@@ -178,8 +178,8 @@ abbrev pub EndsOutput : Status → Option (List ℕ) → Option (List ℕ) → L
 EndsOutput status.WriteFault written after bytes = WritesFront written after bytes
 EndsOutput _ written after bytes = Writes written after bytes
 
--- a whole session under an application name: the requests are the frames of the bytes read, in order, each has its entry, and
--- the bytes written are the replies to them
+-- a whole session under an application name: the requests are the frames of the bytes read, in order,
+-- each has its entry, and the bytes written are the replies to them
 pub record IsSession (app : List ℕ) (end : Status) (bad : Option BadPlace) (old new : Outside) : Type 0 where
   pub bodies : List (List ℕ)
   pub fit : AreBodies bodies

@@ -2,10 +2,12 @@ use super::*;
 use default_key::Options;
 use dp_base::{AesSize, Alg, MemClock, MemDraw, MemSink, MemSource};
 use dp_encryptor::HeaderTable;
-use dp_node::{NodeError, Solo};
+use dp_node::{At, HostView, NodeError, Solo};
+use dp_protector::{Opened, ProtectRefused, UnprotectRefused};
 use key_elements::{Element, ElementList, Reason, encode, read_list};
+use purpose_chain::Chain;
 use repo_keeper::{MemKeeper, OwnRepo};
-use ring_world::Step;
+use ring_world::{Step, StepList};
 use std::alloc::Global;
 use std::test::Fail;
 
@@ -598,6 +600,195 @@ fn protecting(rt: HostRuntime) -> Result<(), Fail> {
         let (end, written) = session(alloc, input, &outside)?;
         assert_eq!(rt; end.status, Status::Done, "{}", row.name);
         assert_eq!(rt; written.as_slice(), wanted.as_slice(), "{}", row.name);
+    }
+    Ok(())
+}
+
+// A node that is opened at day 0 over an empty repository, and what its calls are lent. Its draws are
+// zeros.
+#[derive(Drop)]
+struct Node {
+    alloc: Global,
+    repo: OwnRepo<MemKeeper>,
+    draw: MemDraw,
+    solo: Solo,
+    headers: HeaderTable,
+}
+
+impl Node {
+    fn open(alloc: Global, auto: bool) -> Result<Node, Fail> {
+        let options = Options::new(90, auto, Alg::Cbc256(AesSize::A256)).map_err(|_| "options")?;
+        let keeper = MemKeeper::new(ElementList::empty(), Vec::new(alloc));
+        let mut repo = OwnRepo::new(alloc, keeper);
+        let mut draw = MemDraw::new(Vec::from_elem(alloc, 0, 1_024)?, Vec::new(alloc));
+        let solo = Solo::open(alloc, &mut repo, &mut draw, DAY_0, options)?;
+        Ok(Node {
+            alloc,
+            repo,
+            draw,
+            solo,
+            headers: HeaderTable::new(alloc),
+        })
+    }
+
+    // The payload of no bytes at day 0.
+    fn seal(&mut self, purpose: &str) -> Result<Result<Answered<Vec<u8>>, CallRefused>, Fail> {
+        if self.solo.held() {
+            return Err("no call".into());
+        }
+        let chain = Chain::new(self.alloc, purpose)?;
+        let mut steps = StepList::with_room(self.alloc)?;
+        let at = At {
+            now: DAY_0,
+            need: 0,
+        };
+        Ok(protect(
+            &mut (),
+            self.alloc,
+            &mut self.solo,
+            &mut self.repo,
+            &mut self.draw,
+            &self.headers,
+            at,
+            &chain,
+            &[],
+            &mut steps,
+        ))
+    }
+
+    // What the payload opens to at day 0 by a ring of at least so many elements.
+    fn open_by(
+        &mut self,
+        need: u64,
+        purpose: &str,
+        payload: &[u8],
+    ) -> Result<Result<Answered<Opened>, CallRefused>, Fail> {
+        if self.solo.held() || payload.len() > 1_024 {
+            return Err("no call".into());
+        }
+        let chain = Chain::new(self.alloc, purpose)?;
+        let mut steps = StepList::with_room(self.alloc)?;
+        let at = At { now: DAY_0, need };
+        Ok(unprotect(
+            &mut (),
+            self.alloc,
+            &mut self.solo,
+            &mut self.repo,
+            &mut self.draw,
+            &self.headers,
+            at,
+            &chain,
+            payload,
+            false,
+            &mut steps,
+        ))
+    }
+}
+
+// The reply of the first of ROWS without its frame, status and number of elements: the payload of no
+// bytes under code 3.
+const EMPTY_SEALED: &str = "09F0C9F000000000000000408000000000000000\
+    0000000000000000000000000000000000000000000000000000000000000000D0AD7DFF99C4C6E4\
+    90DB8E6FFC9C8AAE935588C75ABAA2083558145A94543DB3CCFED3D00F1054C861780AFE0B2CFB66";
+
+// Calls at a node, each with an answer and with a refusal.
+#[test]
+fn node_calls(rt: HostRuntime) -> Result<(), Fail> {
+    let alloc = rt.alloc();
+    let mut node = Node::open(alloc, true)?;
+    let sealed = bytes_of(alloc, EMPTY_SEALED)?;
+    let answered = node.seal("a")??;
+    assert_eq!(rt; (answered.front, answered.made_at), (1, DAY_0));
+    assert_eq!(rt; answered.value.as_slice(), sealed.as_slice());
+    let opened = node.open_by(1, "a", sealed.as_slice())??;
+    assert_eq!(rt; (opened.front, opened.made_at), (1, DAY_0));
+    assert!(rt; opened.value.plain.is_empty());
+    assert_eq!(rt;
+        (opened.value.revoked, opened.value.default_changed),
+        (false, false)
+    );
+    assert!(rt;
+        matches!(
+            node.open_by(2, "a", sealed.as_slice())?,
+            Err(CallRefused::Node(NodeError::Behind { have: 1, need: 2 }))
+        )
+    );
+    assert!(rt;
+        matches!(
+            node.open_by(0, "b", sealed.as_slice())?,
+            Err(CallRefused::Unprotect {
+                front: 1,
+                why: UnprotectRefused::Tampered
+            })
+        )
+    );
+    let mut keyless = Node::open(alloc, false)?;
+    assert!(rt;
+        matches!(
+            keyless.seal("a")?,
+            Err(CallRefused::Protect {
+                front: 0,
+                why: ProtectRefused::NoDefaultKey
+            })
+        )
+    );
+    Ok(())
+}
+
+// The longest name of an application, and one that is longer.
+#[test]
+fn names(rt: HostRuntime) -> Result<(), Fail> {
+    let alloc = rt.alloc();
+    for (count, refused) in [(256, None), (257, Some(AppRefused::TooLong))] {
+        let name = String::from_utf8(Vec::from_elem(alloc, b'n', count)?)
+            .ok()
+            .ok_or("text")?;
+        match AppName::new(alloc, name.as_str()) {
+            Ok(app) => {
+                assert_eq!(rt; refused, None, "{count} bytes");
+                assert_eq!(rt; app.as_str(), name.as_str());
+            }
+            Err(why) => assert_eq!(rt; Some(why), refused, "{count} bytes"),
+        }
+    }
+    Ok(())
+}
+
+#[test]
+fn phrases(rt: HostRuntime) -> Result<(), Fail> {
+    let alloc = rt.alloc();
+    let calls = [
+        (
+            CallRefused::Node(NodeError::Full { count: 5 }),
+            "the repository is full with 5 elements",
+        ),
+        (
+            CallRefused::Protect {
+                front: 1,
+                why: ProtectRefused::NoDefaultKey,
+            },
+            "the ring has no key to protect with",
+        ),
+        (
+            CallRefused::Unprotect {
+                front: 1,
+                why: UnprotectRefused::Tampered,
+            },
+            "the body was altered, or was sealed otherwise",
+        ),
+    ];
+    for (refused, phrase) in calls {
+        assert_eq!(rt; format!(in alloc; "{refused}")?.as_str(), phrase);
+    }
+    let names = [
+        (
+            AppRefused::TooLong,
+            "the name of an application is too long",
+        ),
+        (AppRefused::Memory, "no memory"),
+    ];
+    for (refused, phrase) in names {
+        assert_eq!(rt; format!(in alloc; "{refused}")?.as_str(), phrase);
     }
     Ok(())
 }

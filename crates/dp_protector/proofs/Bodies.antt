@@ -34,10 +34,10 @@ open_body-long alg key chain body long =
     let tested : nat_lt (length body) (plain_len alg) ≡ false = grind (arith, nat_tests) in
     rw tested refl
 
-AreBytes-iv : (alg : Alg) (body : List ℕ) → AreBytes body → AreBytes (parts_of alg body).iv
+pub AreBytes-iv : (alg : Alg) (body : List ℕ) → AreBytes body → AreBytes (parts_of alg body).iv
 AreBytes-iv alg body are = AreBytes-take (iv_len alg) (drop 16 body) (AreBytes-drop 16 body are)
 
-AreBytes-enciphered : (alg : Alg) (body : List ℕ) → AreBytes body → AreBytes (parts_of alg body).enciphered
+pub AreBytes-enciphered : (alg : Alg) (body : List ℕ) → AreBytes body → AreBytes (parts_of alg body).enciphered
 AreBytes-enciphered alg body are = AreBytes-take _ _ (AreBytes-drop (16 + iv_len alg) body are)
 
 -- what was told of the parts, of these

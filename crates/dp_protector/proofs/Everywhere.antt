@@ -54,7 +54,7 @@ secret_of alg material = record { alg = alg; material = material }
 payload_with : ℕ → List ℕ → List ℕ
 payload_with id body = first_bytes ++ guid id ++ body
 
-head_len : (id : ℕ) → length (first_bytes ++ guid id) ≡ 20
+pub head_len : (id : ℕ) → length (first_bytes ++ guid id) ≡ 20
 head_len id = omega (arith, length-guid id)
 
 body-of : (id : ℕ) (body : List ℕ) → drop 20 (first_bytes ++ guid id ++ body) ≡ body
@@ -86,7 +86,7 @@ pub record SealedBy (ring : RingOf) (chain : List (List ℕ)) (drawn text payloa
   pub len : length drawn ≡ 16 + iv_len alg
   pub payload_is : payload ≡ first_bytes ++ guid key.id.0 ++ joined (sealed (secret alg key) (aad key.id.0 chain) (take 16 drawn) (drop 16 drawn) text)
 
-sealed-by : (ring : RingOf) (chain : List (List ℕ)) (drawn text payload : List ℕ) (key : KeyRecord) → Seals ring chain drawn text payload key → SealedBy ring chain drawn text payload key
+pub sealed-by : (ring : RingOf) (chain : List (List ℕ)) (drawn text payload : List ℕ) (key : KeyRecord) → Seals ring chain drawn text payload key → SealedBy ring chain drawn text payload key
 unfolding sealing seal
 sealed-by ring chain drawn text payload key seals =
     at (alg_of key.alg) refl (sym (ap (λ (o : Option KeyRecord). sealed_under o chain drawn text) seals.is) ∙ seals.sealed)
@@ -112,7 +112,7 @@ length-gcm_tag key nonce further c len are =
     let full = (keeps (counter_block nonce 1) (IsBlock-counter_block (aes_cipher key) keeps nonce len are 1)).0 in
     length-xor_bytes-le (ghash (aes_cipher key (replicate 16 0)) further c) (aes_cipher key (counter_block nonce 1)) (omega arith)
 
-length-tag : (alg : Alg) (keys : KeyPair) (iv c : List ℕ) → length iv ≡ iv_len alg → AreBytes iv → length (tag alg keys iv c) ≡ tag_len alg
+pub length-tag : (alg : Alg) (keys : KeyPair) (iv c : List ℕ) → length iv ≡ iv_len alg → AreBytes iv → length (tag alg keys iv c) ≡ tag_len alg
 length-tag (Cbc256 size) keys iv c len are = length-sha256 _
 length-tag (Cbc512 size) keys iv c len are = length-sha512 _
 length-tag (Gcm size) keys iv c len are = length-gcm_tag keys.encryption iv [] c len are

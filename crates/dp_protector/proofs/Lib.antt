@@ -7,3 +7,4 @@ mod Heads
 mod Sealing
 pub mod Taken
 mod Texts
+pub mod Lengths

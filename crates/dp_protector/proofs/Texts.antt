@@ -21,7 +21,7 @@ use Rattle.payload_view.specs.Payload.{Parts}
 use Rattle.dp_encryptor.specs.Body.{Opens, enciphered, tag}
 use Rattle.dp_protector.specs.Opening.{before_padding, deciphered, has_whole_blocks, is_body_of, open_parts, text_if}
 
-inverse : (key : List ℕ) → AreInverse (aes_cipher key) (aes_decipher key)
+pub inverse : (key : List ℕ) → AreInverse (aes_cipher key) (aes_decipher key)
 inverse key = record {
   enciphers = IsBlock-aes_cipher key;
   deciphers = IsBlock-aes_decipher key;

@@ -1,13 +1,11 @@
 -- Answers by a ring, from what the calls of the protectors say.
-use Rattle.std.proofs.Common.{◌≡◌, ◌↔◌, ℕ, ◌<◌, ◌≤◌, ◌⊎◌, ⊎_elim, Bor, Bool, true, false, if◌then◌else◌, nat_lt, List, [], ◌∷◌, ◌++◌, length, Option, Some, None, Result, Ok, Err, IsErr, refl, sym, ap, subst, ◌∙◌, arith, inl, inr}
+use Rattle.std.proofs.Common.{◌≡◌, ◌↔◌, ℕ, ◌<◌, ◌≤◌, ◌⊎◌, ⊎_elim, Bor, Bool, true, false, if◌then◌else◌, nat_lt, List, [], ◌∷◌, ◌++◌, length, Option, Some, None, Result, Ok, Err, IsErr, refl, sym, ap, subst, ◌∙◌, inl, inr}
 use Rattle.std.proofs.lemmas.Bool.{le-ltb, lt-ltb}
 use Rattle.std.proofs.lemmas.Bool.Decides.{leb_tells}
 use Rattle.dp_base.specs.Draws.{DrawState, Draws}
 use Rattle.dp_base.specs.declared.want.Memory.{Memory}
 use Rattle.dp_base.proofs.Draws.{Draws-none}
-use Rattle.key_elements.specs.declared.element.KeyRecord.{KeyRecord}
 use Rattle.key_ring.specs.Ring.{RingOf, default_key}
-use Rattle.dp_node.specs.declared.error.NodeError.TheVariants as errors
 use Rattle.dp_protector.specs.declared.refused.ProtectRefused.{ProtectRefused}
 use Rattle.dp_protector.specs.declared.refused.ProtectRefused.TheVariants as protecting
 use Rattle.dp_protector.specs.declared.refused.UnprotectRefused.{UnprotectRefused}

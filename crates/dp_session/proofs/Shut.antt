@@ -4,16 +4,14 @@ use Rattle.std.proofs.lemmas.List.{length-take}
 use Rattle.std.proofs.Math.Seq.{take-length, take-take}
 use Rattle.dp_base.specs.declared.key_id.KeyId.{KeyId}
 use Rattle.key_elements.specs.declared.element.Element.{Element}
-use Rattle.key_elements.specs.declared.element.KeyRecord.{KeyRecord}
 use Rattle.key_elements.specs.Lists.{Extends}
-use Rattle.key_ring.specs.Keys.{is_named, is_revoked, keys_of}
+use Rattle.key_ring.specs.Keys.{is_named, keys_of}
 use Rattle.key_ring.specs.Ring.{RingOf}
 use Rattle.key_ring.specs.State.{state}
 use Rattle.dp_node.specs.declared.error.NodeError.{NodeError}
 use Rattle.dp_node.specs.declared.error.NodeError.TheVariants as errors
 use Rattle.dp_protector.specs.declared.refused.UnprotectRefused.{UnprotectRefused}
 use Rattle.dp_protector.specs.declared.refused.UnprotectRefused.TheVariants as opening
-use Rattle.dp_protector.specs.declared.refused.TextRefused.{TextRefused}
 use Rattle.dp_protector.specs.declared.refused.TextRefused.TheVariants as texts
 use Rattle.dp_protector.specs.Refusals.{refused_in_text, refused_in_timed}
 use Rattle.dp_protector.specs.Opening.{Opening, id_in, opened}
@@ -21,7 +19,6 @@ use Rattle.dp_protector.specs.Text.{as_text, opened_payload, opened_text, payloa
 use Rattle.dp_protector.specs.Timed.{as_timed, opened_timed, timed_chain}
 use Rattle.dp_protector.proofs.Taken.{id-shut, record-shut}
 use Rattle.dp_wire.specs.Replies.{reply_body}
-use Rattle.dp_wire.specs.Reading.{request_at}
 use Rattle.dp_wire.specs.Chains.{used_chain}
 use Rattle.dp_wire.specs.Request.{Request, Ring, Roll, Revoke, RevokeBefore, Protect, Unprotect, ProtectText, UnprotectText, ProtectTimed, UnprotectTimed}
 use Rattle.dp_session.specs.declared.trace.Entry.{Entry}

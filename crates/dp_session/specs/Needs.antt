@@ -1,5 +1,5 @@
 -- What a request needs of its node, and what it draws for a payload.
-use Rattle.std.specs.Prelude.{◌≡◌, ℕ, ◌<◌, ◌^◌, ◌&&◌, Bool, true, false, nat_lt, if◌then◌else◌, List, length, Option, Some, None, Result, Ok, Err}
+use Rattle.std.specs.Prelude.{ℕ, ◌<◌, ◌^◌, ◌&&◌, Bool, true, false, nat_lt, if◌then◌else◌, List, length, Option, Some, None, Result, Ok, Err}
 use Rattle.dp_base.specs.declared.ticks.TheConstants.{MAX_TICKS}
 use Rattle.dp_base.specs.declared.key_id.KeyId.{KeyId}
 use Rattle.key_ring.specs.Ring.{RingOf}

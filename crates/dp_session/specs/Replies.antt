@@ -1,7 +1,7 @@
 -- The reply to a request, as a function of what it was answered by: of the ring that was used, which
 -- stands for its list and moment, or of the place of the new element. Places count from 0. An
 -- application name that isn't empty stands in front of every chain.
-use Rattle.std.specs.Prelude.{ℕ, ◌+◌, ◌-◌, nat_lt, if◌then◌else◌, List, [], ◌∷◌, ◌++◌, length, take, drop, Result, Ok, Err}
+use Rattle.std.specs.Prelude.{ℕ, ◌+◌, ◌-◌, ◌^◌, ◌<◌, nat_lt, if◌then◌else◌, List, [], ◌∷◌, ◌++◌, length, take, drop, Result, Ok, Err}
 use Rattle.dp_base.specs.Guid.{drawn_id}
 use Rattle.key_elements.specs.declared.element.Element.{Element}
 use Rattle.key_ring.specs.Listing.{listing}
@@ -142,3 +142,7 @@ text_in (replies.Unprotected front revoked default_changed plain) = plain.now
 text_in (replies.UnprotectedText front revoked default_changed text) = text.now
 text_in (replies.UnprotectedTimed front revoked default_changed expiry plain) = plain.now
 text_in _ = []
+
+-- at most 18 bytes stand before the text of a reply, and 32 bits have the length of both
+abbrev pub HasRoom : Reply → Type 0
+HasRoom reply = length (text_in reply) + 18 < 2 ^ 32

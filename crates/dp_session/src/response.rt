@@ -6,7 +6,7 @@ ghost use Rattle.dp_wire.specs.declared.reply.Reply.TheVariants as replies;
 ghost use Rattle.dp_wire.specs.Frame.{frame};
 ghost use Rattle.dp_wire.specs.Replies.{reply_body};
 ghost use Rattle.dp_session.specs.declared.trace.Used.TheVariants as used;
-ghost use Rattle.dp_session.specs.Replies.{text_in, refusal_reply};
+ghost use Rattle.dp_session.specs.Replies.{HasRoom, refusal_reply};
 ghost use Rattle.dp_session.specs.Responding.{IsByRing};
 ghost use Rattle.dp_session.specs.Serving.{IsAnswer};
 
@@ -18,10 +18,6 @@ use key_elements::ElementList;
 use key_ring::Ring;
 use std::alloc::Global;
 
-// More bytes than the text of any reply has: the longest listing has fewer, and so has what is made of
-// a request.
-const MAX_TEXT: usize = 2_400_000;
-
 /// What a request was answered by, its reply's frame, and the list that it brings to the trace.
 #[derive(Debug, Drop)]
 pub(crate) struct Response {
@@ -30,28 +26,11 @@ pub(crate) struct Response {
     pub list: Option<ElementList>,
 }
 
-// The text in a reply.
-fn text_of<'a>(reply: &Reply<'a>) -> &'a [u8]
-    ensures { result.now ≡ text_in reply.now }
-{
-    match reply {
-        Reply::Ring { listing: text, .. }
-        | Reply::ProtectedText { text, .. }
-        | Reply::UnprotectedText { text, .. } => text.as_bytes(),
-        Reply::Protected { payload, .. } | Reply::ProtectedTimed { payload, .. } => payload,
-        Reply::Unprotected { plain, .. } | Reply::UnprotectedTimed { plain, .. } => plain,
-        _ => &[],
-    }
-}
-
-/// The frame of a reply. None has a text that is longer than its limit, so nothing is lost by taking
-/// one that would be for want of memory.
+/// The frame of a reply.
 pub(crate) fn framed(alloc: Global, reply: &Reply<'_>) -> Result<Vec<u8>, Memory>
+    requires { HasRoom reply.now }
     ensures { IfOk result (λ bytes. bytes.items ≡ frame (reply_body reply.now)) }
 {
-    if text_of(reply).len() > MAX_TEXT {
-        return Err(Memory);
-    }
     let mut bytes = Vec::new(alloc);
     put_reply(alloc, reply, &mut bytes)?;
     Ok(bytes)
@@ -59,8 +38,8 @@ pub(crate) fn framed(alloc: Global, reply: &Reply<'_>) -> Result<Vec<u8>, Memory
 
 // The reply that a call was refused; none where it wanted memory.
 fn reply_of(why: &NodeError) -> Option<Reply<'static>>
-    ensures { MatchOption result (why.now ≡ errors.Memory) (λ reply.
-        (reply_body reply ≡ refusal_reply why.now) × (why.now ≢ errors.Memory)) }
+    ensures { MatchOption result (why.now ≡ errors.Memory) (λ reply. HasRoom reply
+        × (reply_body reply ≡ refusal_reply why.now) × (why.now ≢ errors.Memory)) }
 {
     match why {
         NodeError::StoreFault => Some(Reply::StoreFault),
@@ -111,6 +90,7 @@ pub(crate) fn bad_request(alloc: Global, why: BadRequest) -> Result<Response, Me
 
 /// An answer by the ring, whose list goes to the trace.
 pub(crate) fn by_ring(alloc: Global, ring: &Ring, reply: &Reply<'_>) -> Result<Response, Memory>
+    requires { HasRoom reply.now }
     ensures { IsByRing ring.now (reply_body reply.now) result }
 {
     let reply = framed(alloc, reply)?;

@@ -4,3 +4,4 @@ pub mod Lookup
 pub mod KeysOf
 pub mod FactsOf
 pub mod Stays
+pub mod Short

@@ -1,5 +1,4 @@
 -- Rings grow by their lists: the laws of one ring extending another.
-use Rattle.std.specs.Prelude.{◌≡◌}
 use Rattle.key_elements.specs.Growth.{Extends-reflexive, Extends-transitive}
 use Rattle.key_ring.specs.Ring.{RingOf, ExtendsRing}
 

@@ -11,6 +11,7 @@ mod revoked;
 mod ring;
 
 pub use due::{EXTENSION, Why};
+pub use listing::LISTING_LIMIT;
 pub use revoked::revoked_stays;
 pub use ring::{KeyState, Ring};
 

@@ -1,8 +1,10 @@
 //! The lines of a listing (docs/FORMATS.md, "Listing").
 
-ghost use Rattle.std.specs.Prelude.{◌≡◌, ◌++◌, IfOk, OnOk, length, string_bytes};
+ghost use Rattle.std.specs.Prelude.{◌≡◌, ◌<◌, ◌++◌, IfOk, OnOk, length, string_bytes};
 ghost use Rattle.std.specs.List.{flat_map};
 ghost use Rattle.std.specs.Option.{option_copied};
+ghost use Rattle.key_elements.specs.Record.{AreListed};
+ghost use Rattle.key_ring.specs.Keys.{ring_keys};
 ghost use Rattle.key_ring.specs.Listing.{head_line, mass_date, mass_line, state_of, dates_text, key_line, chosen_line, default_line, renew_line, lines};
 
 use crate::keys::{RingKey, is_usable};
@@ -13,10 +15,16 @@ use dp_base::{Memory, key_id_text};
 use key_elements::{ElementList, KeyRecord};
 use std::alloc::Global;
 
+/// More bytes than any listing has.
+pub const LISTING_LIMIT: usize = 2_400_000;
+
+const _: () = prove!(LISTING_LIMIT == 2_400_000);
+
 // How many elements, and the moment.
 #[tactic(auto, unfolding(crate::specs::Listing::head_line))]
 fn head_line(alloc: Global, list: &ElementList, made_at: u64) -> Result<String, Memory>
-    ensures { IfOk result (λ text. string_bytes text ≡ head_line list.now made_at) }
+    ensures value { IfOk result (λ text. string_bytes text ≡ head_line list.now made_at) }
+    ensures listed { AreListed list.now }
 {
     let count = list.len();
     Ok(format!(in alloc; "ring {count} elements at {made_at}\n")?)
@@ -129,7 +137,10 @@ pub(crate) fn text_of(
     policy: Policy,
     made_at: u64,
 ) -> Result<String, Memory>
-    ensures { IfOk result (λ text. string_bytes text ≡ lines list.now keys.now policy made_at) }
+    requires keys { keys.now ≡ ring_keys list.now }
+    ensures value { IfOk result (λ text. string_bytes text
+        ≡ lines list.now keys.now policy made_at) }
+    ensures short { IfOk result (λ text. length (string_bytes text) < LISTING_LIMIT) }
 {
     let mut text = head_line(alloc, list, made_at)?;
     text.push_str(mass_line(alloc, mass_date(list))?.as_str())?;

@@ -1,6 +1,6 @@
 //! A ring.
 
-ghost use Rattle.std.specs.Prelude.{◌≡◌, ◌≤◌, ◌/◌, ◌==◌, IfOk, find, option_and_then, option_map, slice_get, string_bytes};
+ghost use Rattle.std.specs.Prelude.{◌≡◌, ◌<◌, ◌≤◌, ◌/◌, ◌==◌, IfOk, find, length, option_and_then, option_map, slice_get, string_bytes};
 ghost use Rattle.std.specs.Arc.{arc_value};
 ghost use Rattle.std.specs.Option.{option_copied, option_or};
 ghost use Rattle.dp_base.specs.declared.ticks.TheConstants.{LAST};
@@ -8,6 +8,7 @@ ghost use Rattle.key_ring.specs.Ring.{IsRing, ring_of, until_with, due, extended
 ghost use Rattle.key_ring.specs.Keys.{ring_keys};
 ghost use Rattle.key_ring.specs.State.{seen, has_id, lookup_of};
 ghost use Rattle.key_ring.specs.Listing.{listing};
+ghost use Rattle.key_ring.specs.declared.listing.TheConstants.{LISTING_LIMIT};
 
 use crate::due::{EXTENSION, Why};
 use crate::keys::{RingKey, facts_of, is_usable, ring_keys};
@@ -252,7 +253,9 @@ impl Ring {
     /// The ring as text: a line on its list, one on mass revocation, one for each key, one on its
     /// default key and one on renewal.
     pub fn listing(&self, alloc: Global) -> Result<String, Memory>
-        ensures { IfOk result (λ text. string_bytes text ≡ listing self.now.list self.now.made_at) }
+        ensures value { IfOk result (λ text. string_bytes text
+            ≡ listing self.now.list self.now.made_at) }
+        ensures short { IfOk result (λ text. length (string_bytes text) < LISTING_LIMIT) }
     {
         text_of(alloc, &self.list, self.keys(), self.policy, self.made_at)
     }

@@ -1,5 +1,4 @@
 use Rattle.std.proofs.Common.{◌∙◌, length, Ok, refl, ap}
-use Rattle.dp_session.specs.declared.calls.Answered.{Answered}
 use Rattle.dp_session.proofs.calls.unprotect.Goals as goal
 
 pub returns-in-Ok-unprotect_with-clause-unprotects : goal.returns-in-Ok-unprotect_with-clause-unprotects

@@ -1,8 +1,6 @@
 use Rattle.std.proofs.Common.{◌<◌, ◌≤◌, ◌^◌, ℕ, Result, Ok, Err, IfOk, IfSome, Option, Some, None, length, arith}
 use Rattle.dp_base.specs.declared.want.Memory.{Memory}
 use Rattle.dp_session.specs.declared.needs.Sought.{Sought}
-use Rattle.dp_session.specs.Needs.{IsShort}
-use Rattle.dp_wire.specs.Request.{request_of}
 use Rattle.dp_session.proofs.needs.seek.Goals as goal
 use Rattle.std.specs.declared.vec.Vec.{Vec}
 use Rattle.std.specs.declared.alloc.Global.{Global}

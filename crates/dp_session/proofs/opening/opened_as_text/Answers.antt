@@ -1,4 +1,4 @@
-use Rattle.std.proofs.Common.{◌∙◌, ℕ, length, Ok, Err, refl, sym, ap, ⊎_elim}
+use Rattle.std.proofs.Common.{◌∙◌, ℕ, length, Ok, Err, refl, sym, ap, arith, ⊎_elim}
 use Rattle.dp_protector.specs.declared.refused.TextRefused.TheVariants as texts
 use Rattle.dp_protector.specs.Text.{opening_text}
 use Rattle.dp_wire.specs.declared.reply.Reply.TheVariants as replies
@@ -6,6 +6,8 @@ use Rattle.dp_wire.specs.Replies.{reply_body}
 use Rattle.dp_wire.specs.Chains.{chain_of}
 use Rattle.dp_wire.specs.Request.{UnprotectText}
 use Rattle.dp_session.proofs.Responses.{dry_answer, dry_unopened, by_text, text_due, not_wanted}
+use Rattle.dp_base.proofs.Parts.{AreBytes-from_fits}
+use Rattle.dp_protector.proofs.Lengths.{length-as_text}
 use Rattle.dp_session.proofs.opening.opened_as_text.Goals as goal
 
 pub to_chain-requires : goal.to_chain-requires
@@ -38,3 +40,7 @@ returns-in-Err-NotText c = λ now need text draws found.
     let told = rw c.in-Err-NotText.field-0-is at c.in-Err-NotText.ensures in
     ⊎_elim (λ is. dry_answer c.args.app.now now p ring refl c.by_ring-in-Err-NotText.result draws _ (text_due c.args.app.now ring (chain_of c.args.chain.now.bytes.now) c.in_ok-chain.chain c.args.payload.now text c.args.allow_revoked same found (Err texts.NotText) is ∙ ap (λ (n : ℕ). reply_body (replies.NotText n)) (sym count)) c.by_ring-in-Err-NotText.ensures)
     (λ is. absurd cc) told
+
+pub by_ring-requires : goal.by_ring-requires
+by_ring-requires c =
+    omega (arith, c.requires, ap length c.as_str-in-Ok.ensures.value, length-as_text c.args.ring.now c.in_ok-chain.chain c.args.payload.now c.args.allow_revoked (opening_text c.in-Ok.opened) (AreBytes-from_fits c.args.payload.now c.type_inv.payload) c.in-Ok.ensures)

@@ -1,10 +1,8 @@
-use Rattle.std.proofs.Common.{◌≡◌, ◌∙◌, ℕ, List, Option, Some, None, length, refl, sym, ap}
-use Rattle.dp_protector.specs.Text.{opened_payload, opened_text, payload_of}
+use Rattle.std.proofs.Common.{◌∙◌, ℕ, List, Option, Some, length, refl, sym, ap}
 use Rattle.dp_wire.specs.declared.reply.Reply.TheVariants as replies
 use Rattle.dp_wire.specs.Replies.{reply_body}
-use Rattle.dp_wire.specs.Chains.{chain_of, used_chain}
+use Rattle.dp_wire.specs.Chains.{chain_of}
 use Rattle.dp_wire.specs.Request.{UnprotectText}
-use Rattle.dp_session.specs.Replies.{text_reply}
 use Rattle.dp_session.specs.Sought.{kept}
 use Rattle.dp_session.proofs.Responses.{dry_answer, no_text}
 use Rattle.dp_session.proofs.opening.opened_text.Goals as goal

@@ -1,4 +1,4 @@
-use Rattle.std.proofs.Common.{◌∙◌, ℕ, length, Ok, Err, refl, sym, ap, ⊎_elim}
+use Rattle.std.proofs.Common.{◌∙◌, ℕ, length, Ok, Err, refl, sym, ap, arith, ⊎_elim}
 use Rattle.dp_protector.specs.declared.refused.TimedOpenRefused.TheVariants as timed
 use Rattle.dp_protector.specs.Timed.{opening_timed}
 use Rattle.dp_wire.specs.declared.reply.Reply.TheVariants as replies
@@ -6,6 +6,8 @@ use Rattle.dp_wire.specs.Replies.{reply_body}
 use Rattle.dp_wire.specs.Chains.{chain_of}
 use Rattle.dp_wire.specs.Request.{UnprotectTimed}
 use Rattle.dp_session.proofs.Responses.{dry_answer, dry_unopened, by_timed, timed_due, not_wanted_timed}
+use Rattle.dp_base.proofs.Parts.{AreBytes-from_fits}
+use Rattle.dp_protector.proofs.Lengths.{length-opened_timed}
 use Rattle.dp_session.proofs.opening.opened_timed.Goals as goal
 
 pub to_chain-requires : goal.to_chain-requires
@@ -52,3 +54,7 @@ returns-in-Err-Expired c = λ need draws.
     let told = rw c.in-Err-Expired.field-0-is at c.in-Err-Expired.ensures in
     ⊎_elim (λ is. dry_answer c.args.app.now c.args.now p ring refl c.by_ring-in-Err-Expired.result draws _ (timed_due c.args.app.now c.args.now ring wire c.in_ok-chain.chain c.args.payload.now c.args.allow_revoked same (Err (timed.Expired c.in-Err-Expired.at)) is ∙ ap (λ (n : ℕ). reply_body (replies.Expired n c.in-Err-Expired.at)) (sym count)) c.by_ring-in-Err-Expired.ensures)
     (λ is. absurd cc) told
+
+pub by_ring-requires : goal.by_ring-requires
+by_ring-requires c =
+    omega (arith, c.requires, ap length c.as_slice.ensures.value, length-opened_timed c.args.ring.now c.in_ok-chain.chain c.args.payload.now c.args.allow_revoked c.args.now (opening_timed c.in-Ok.opened) (AreBytes-from_fits c.args.payload.now c.type_inv.payload) c.in-Ok.ensures)

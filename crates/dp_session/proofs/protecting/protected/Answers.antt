@@ -5,6 +5,8 @@ use Rattle.dp_wire.specs.Chains.{chain_of}
 use Rattle.dp_wire.specs.Request.{Protect}
 use Rattle.dp_session.specs.Replies.{protected_reply}
 use Rattle.dp_session.proofs.Responses.{made, unmade_by, sealing-none, by_payload}
+use Rattle.dp_base.proofs.Parts.{AreBytes-from_fits}
+use Rattle.dp_protector.proofs.Lengths.{length-protects}
 use Rattle.dp_session.proofs.protecting.protected.Goals as goal
 
 pub to_chain-requires : goal.to_chain-requires
@@ -29,3 +31,7 @@ returns g c = λ now need.
     let e = c.in-Err.ensures in
     unmade_by c.args.app.now now (Protect need wire c.args.plain.now) ring MAX_PLAIN c.args.plain.now (λ d. sealing ring chain d c.args.plain.now) (λ d. ap (λ (ch : List (List ℕ)). protected_reply (length ring.list) (within MAX_PLAIN c.args.plain.now (sealing ring ch d c.args.plain.now))) (rw c.as_str.ensures.value at (sym same))) refl refl (λ none d. sealing-none ring chain d c.args.plain.now none) c.unmade.result (g.D.Draw.draws c.args.draw.now) (g.D.Draw.draws c.protect_with.new.draw) c.in-Err.why
     e.too_long (λ h. e.no_default_key.0 h) (λ h. ap g.D.Draw.draws (e.untouched h)) e.draw_fault (λ h. ⊎_elim (λ s. inl (ap g.D.Draw.draws s)) (λ d. inr d) (e.memory h)) c.unmade.ensures
+
+pub by_ring-requires : goal.by_ring-requires
+by_ring-requires g c =
+    omega (arith, ap length c.as_slice-payload.ensures.value, length-protects c.args.ring.now c.in_ok-chain.chain c.args.plain.now _ (AreBytes-from_fits c.args.plain.now c.type_inv.plain) c.in-Ok.ensures.made)

@@ -6,6 +6,8 @@ use Rattle.dp_wire.specs.Chains.{chain_of}
 use Rattle.dp_wire.specs.Request.{ProtectText}
 use Rattle.dp_session.specs.Replies.{protected_reply}
 use Rattle.dp_session.proofs.Responses.{made, unmade_by, sealing-none, by_payload_text}
+use Rattle.dp_base.proofs.Parts.{AreBytes-from_fits}
+use Rattle.dp_protector.proofs.Lengths.{length-protects_text}
 use Rattle.dp_session.proofs.protecting.protected_text.Goals as goal
 
 pub to_chain-requires : goal.to_chain-requires
@@ -30,3 +32,7 @@ returns g c = λ now need.
     let e = c.in-Err.ensures in
     unmade_by c.args.app.now now (ProtectText need wire c.args.text.now) ring MAX_TEXT c.args.text.now (λ d. given_as_text (sealing ring chain d c.args.text.now)) (λ d. ap (λ (ch : List (List ℕ)). protected_reply (length ring.list) (within MAX_TEXT c.args.text.now (given_as_text (sealing ring ch d c.args.text.now)))) (rw c.as_str.ensures.value at (sym same))) refl refl (λ none d. ap given_as_text (sealing-none ring chain d c.args.text.now none)) c.unmade.result (g.D.Draw.draws c.args.draw.now) (g.D.Draw.draws c.protect_text.new.draw) c.in-Err.why
     e.too_long (λ h. e.no_default_key.0 h) (λ h. ap g.D.Draw.draws (e.untouched h)) e.draw_fault (λ h. ⊎_elim (λ s. inl (ap g.D.Draw.draws s)) (λ d. inr d) (e.memory h)) c.unmade.ensures
+
+pub by_ring-requires : goal.by_ring-requires
+by_ring-requires g c =
+    omega (arith, ap length c.as_str-text.ensures.value, length-protects_text c.args.ring.now c.in_ok-chain.chain c.args.text.now _ (AreBytes-from_fits c.args.text.now c.type_inv.text) c.in-Ok.ensures.made)

@@ -1,1 +1,0 @@
-use Rattle.key_ring.proofs.elements.element_at.Goals as goal

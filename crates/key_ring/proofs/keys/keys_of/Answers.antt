@@ -1,4 +1,4 @@
-use Rattle.std.proofs.Common.{refl, ap, sym, subst, ◌∙◌, arith}
+use Rattle.std.proofs.Common.{ap, sym, ◌∙◌, arith}
 use Rattle.key_ring.specs.Keys.{key_in, keys_of}
 use Rattle.key_ring.specs.Put.{put_record}
 use Rattle.key_ring.proofs.KeysOf.{keys_of-more, keys_of-skip}

@@ -1,5 +1,4 @@
-use Rattle.std.proofs.Common.{refl, ap, sym, ◌∙◌, arith}
-use Rattle.key_ring.specs.Keys.{revokes}
+use Rattle.std.proofs.Common.{sym, ◌∙◌, arith}
 use Rattle.key_ring.proofs.Stays.{revoked_here, none_more}
 use Rattle.key_ring.proofs.revoked.is_revoked.Goals as goal
 

@@ -77,7 +77,7 @@ length-gcm_tag key nonce aad c len are =
     let full = (keeps (counter_block nonce 1) (IsBlock-counter_block (aes_cipher key) keeps nonce len are 1)).0 in
     length-xor_bytes-le (ghash (aes_cipher key (replicate 16 0)) aad c) (aes_cipher key (counter_block nonce 1)) (omega arith)
 
-length-tag : (alg : Alg) (keys : KeyPair) (iv c : List ℕ) → length iv ≡ iv_len alg → AreBytes iv → length (tag alg keys iv c) ≡ tag_len alg
+pub length-tag : (alg : Alg) (keys : KeyPair) (iv c : List ℕ) → length iv ≡ iv_len alg → AreBytes iv → length (tag alg keys iv c) ≡ tag_len alg
 length-tag (Cbc256 size) keys iv c len are = length-sha256 _
 length-tag (Cbc512 size) keys iv c len are = length-sha512 _
 length-tag (Gcm size) keys iv c len are = length-gcm_tag keys.encryption iv [] c len are
@@ -93,7 +93,7 @@ Opens-sealed secret aad modifier iv text ml vl are =
 
 -- ---- one text
 
-inverse : (key : List ℕ) → AreInverse (aes_cipher key) (aes_decipher key)
+pub inverse : (key : List ℕ) → AreInverse (aes_cipher key) (aes_decipher key)
 inverse key = record {
   enciphers = IsBlock-aes_cipher key;
   deciphers = IsBlock-aes_decipher key;

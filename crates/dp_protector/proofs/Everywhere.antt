@@ -1,30 +1,19 @@
 -- What one node seals, other nodes open.
-use Rattle.std.proofs.Common.{◌≡◌, ◌≢◌, ℕ, ◌+◌, ◌<◌, ◌^◌, Bool, true, false, not, ◌&&◌, List, [], ◌++◌, length, take, drop, Option, Some, None, Result, Ok, refl, sym, ap, subst, ◌∙◌, arith, length-append}
-use Rattle.std.specs.Prelude.{nat_le, replicate}
-use Rattle.sha2.proofs.Facts256.{length-sha256}
-use Rattle.sha2.proofs.Facts512.{length-sha512}
-use Rattle.aes_block.specs.Cipher.{aes_cipher}
-use Rattle.aes_block.specs.Laws.{IsBlock-aes_cipher}
-use Rattle.gcm_mode.specs.Ctr.{counter_block}
-use Rattle.gcm_mode.specs.Ghash.{ghash}
-use Rattle.gcm_mode.specs.Product.{block_of}
-use Rattle.gcm_mode.specs.Gcm.{gcm_tag}
-use Rattle.gcm_mode.proofs.Counting.{IsBlock-counter_block, length-xor_bytes-le}
+use Rattle.std.proofs.Common.{◌≡◌, ◌≢◌, ℕ, ◌+◌, ◌<◌, ◌^◌, Bool, true, false, not, ◌&&◌, List, ◌++◌, length, take, drop, Option, Some, None, Result, Ok, refl, sym, ap, subst, ◌∙◌, arith, length-append}
+use Rattle.std.specs.Prelude.{nat_le}
 use Rattle.std.proofs.lemmas.Bool.Decides.{nat_tests}
 use Rattle.std.proofs.lemmas.List.{take_at, drop_at, length-take-le, length-drop}
 use Rattle.dp_base.specs.declared.alg.Alg.{Alg}
-use Rattle.dp_base.specs.declared.alg.Alg.TheVariants.{Cbc256, Cbc512, Gcm}
 use Rattle.dp_base.specs.declared.key_id.KeyId.{KeyId}
 use Rattle.dp_base.specs.Blocks.{AreBytes}
 use Rattle.dp_base.specs.Guid.{guid, id_of_guid}
-use Rattle.dp_base.specs.Lengths.{iv_len, tag_len}
+use Rattle.dp_base.specs.Lengths.{iv_len}
 use Rattle.dp_base.proofs.Guid.{id_of_guid-guid, length-guid}
 use Rattle.dp_base.proofs.Parts.{AreBytes-drop}
-use Rattle.context_header.specs.Keys.{KeyPair}
 use Rattle.key_elements.specs.declared.element.KeyRecord.{KeyRecord}
 use Rattle.payload_view.specs.Payload.{Parts, joined, parts_of, plain_len}
 use Rattle.dp_encryptor.specs.Body.{HasTag, Opens, Secret, enciphered, sealed, subkeys, tag}
-use Rattle.dp_encryptor.proofs.Undoing.{Opens-sealed, parts_of-joined}
+use Rattle.dp_encryptor.proofs.Undoing.{Opens-sealed, length-tag, parts_of-joined}
 use Rattle.purpose_chain.specs.Chain.{IsChain, aad, first_bytes}
 use Rattle.purpose_chain.proofs.OneToOne.{one_to_one}
 use Rattle.key_ring.specs.Ring.{RingOf}
@@ -102,20 +91,6 @@ sealed-by ring chain drawn text payload key seals =
       len = seals.len ∙ draw_len-is ring key alg seals.is has;
       payload_is = sym (ok_same _ _ e);
     }
-
--- ---- the length of a tag
-
-length-gcm_tag : (key nonce further c : List ℕ) → length nonce ≡ 12 → AreBytes nonce → length (gcm_tag (aes_cipher key) nonce further c) ≡ 16
-unfolding gcm_tag ghash block_of
-length-gcm_tag key nonce further c len are =
-    let keeps = IsBlock-aes_cipher key in
-    let full = (keeps (counter_block nonce 1) (IsBlock-counter_block (aes_cipher key) keeps nonce len are 1)).0 in
-    length-xor_bytes-le (ghash (aes_cipher key (replicate 16 0)) further c) (aes_cipher key (counter_block nonce 1)) (omega arith)
-
-pub length-tag : (alg : Alg) (keys : KeyPair) (iv c : List ℕ) → length iv ≡ iv_len alg → AreBytes iv → length (tag alg keys iv c) ≡ tag_len alg
-length-tag (Cbc256 size) keys iv c len are = length-sha256 _
-length-tag (Cbc512 size) keys iv c len are = length-sha512 _
-length-tag (Gcm size) keys iv c len are = length-gcm_tag keys.encryption iv [] c len are
 
 -- ---- the body of a text under the key of another node
 

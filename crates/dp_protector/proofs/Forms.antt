@@ -28,7 +28,7 @@ use Rattle.dp_protector.specs.Timed.{TimedOpening, as_timed, opened_timed, timed
 -- ---- base64url
 
 -- no text is shorter than its payload
-pub symbols-long : (t m : List ℕ) → length m ≤ length (encode_symbols t m)
+symbols-long : (t m : List ℕ) → length m ≤ length (encode_symbols t m)
 unfolding encode_symbols
 symbols-long t [] = omega arith
 symbols-long t (a ∷ []) = omega arith

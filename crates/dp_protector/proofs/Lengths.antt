@@ -24,6 +24,7 @@ use Rattle.key_elements.specs.declared.element.KeyRecord.{KeyRecord}
 use Rattle.key_ring.specs.Ring.{RingOf, default_key}
 use Rattle.payload_view.specs.Payload.{parts_of, plain_len}
 use Rattle.dp_encryptor.specs.Body.{enciphered, subkeys, tag}
+use Rattle.dp_encryptor.proofs.Undoing.{inverse, length-tag}
 use Rattle.purpose_chain.specs.Chain.{aad, first_bytes}
 use Rattle.dp_base.specs.Guid.{guid}
 use Rattle.timed_payload.specs.Timed.{expiry_of, split, timed}
@@ -42,10 +43,10 @@ use Rattle.dp_protector.specs.Opening.{Opening, open_body, opened}
 use Rattle.dp_protector.specs.Text.{as_text, given_as_text, protects_text, text_of}
 use Rattle.dp_protector.specs.Timed.{TimedOpening, as_timed, opened_timed, protects_timed, timed_chain, without_expiry}
 use Rattle.dp_protector.proofs.Bodies.{AreBytes-enciphered, AreBytes-iv, open_body-long, open_body-short}
-use Rattle.dp_protector.proofs.Everywhere.{head_len, length-tag}
+use Rattle.dp_protector.proofs.Everywhere.{head_len}
 use Rattle.dp_protector.proofs.Sealing.{draw_len-is}
 use Rattle.dp_protector.proofs.Taken.{taken}
-use Rattle.dp_protector.proofs.Texts.{inverse, open_parts-opens}
+use Rattle.dp_protector.proofs.Texts.{open_parts-opens}
 
 abbrev parted_as : ℕ × List ℕ → Result (ℕ × List ℕ) TimedRefused
 parted_as p = Ok p

@@ -9,25 +9,18 @@ use Rattle.dp_base.specs.declared.alg.Alg.{Alg}
 use Rattle.dp_base.specs.declared.alg.Alg.TheVariants.{Cbc256, Cbc512, Gcm}
 use Rattle.dp_base.proofs.Parts.{AreBytes-take}
 use Rattle.aes_block.specs.Cipher.{aes_cipher, aes_decipher}
-use Rattle.aes_block.specs.Laws.{IsBlock-aes_cipher, IsBlock-aes_decipher, aes_cipher-aes_decipher, aes_decipher-aes_cipher}
+use Rattle.aes_block.specs.Laws.{IsBlock-aes_cipher}
 use Rattle.cbc_mode.specs.Cbc.{ciphertext, plaintext, HasWholeBlocks}
 use Rattle.cbc_mode.specs.Pad.{pad}
-use Rattle.cbc_mode.proofs.Inverse.{AreInverse, AreBytes-plaintext, plaintext-ciphertext}
+use Rattle.cbc_mode.proofs.Inverse.{AreBytes-plaintext, plaintext-ciphertext}
 use Rattle.cbc_mode.proofs.Opening.{HasWholeBlocks-sealed}
 use Rattle.cbc_mode.proofs.Padding.{AreBytes-pad, pad-whole, take-pad}
 use Rattle.gcm_mode.proofs.Counting.{AreBytes-ctr, ctr-ctr}
 use Rattle.context_header.specs.Keys.{KeyPair}
+use Rattle.dp_encryptor.proofs.Undoing.{inverse}
 use Rattle.payload_view.specs.Payload.{Parts}
 use Rattle.dp_encryptor.specs.Body.{Opens, enciphered, tag}
 use Rattle.dp_protector.specs.Opening.{before_padding, deciphered, has_whole_blocks, is_body_of, open_parts, text_if}
-
-pub inverse : (key : List ℕ) → AreInverse (aes_cipher key) (aes_decipher key)
-inverse key = record {
-  enciphers = IsBlock-aes_cipher key;
-  deciphers = IsBlock-aes_decipher key;
-  undoes = aes_decipher-aes_cipher key;
-  redoes = aes_cipher-aes_decipher key;
-}
 
 -- ---- from the fact to the value
 

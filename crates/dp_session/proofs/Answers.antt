@@ -38,7 +38,7 @@ use Rattle.dp_protector.specs.Timed.{opened_timed}
 use Rattle.dp_session.specs.declared.response.Response.{Response}
 use Rattle.dp_session.specs.declared.trace.Used.{Used}
 use Rattle.dp_session.specs.declared.trace.Used.TheVariants as used
-use Rattle.dp_session.specs.Replies.{answer_by, refusal_reply, reply_by_place, reply_by_ring, reply_to, ring_at, sealed_with, HasRoom}
+use Rattle.dp_session.specs.Replies.{answer_by, refusal_reply, reply_by_place, reply_by_ring, reply_to, ring_at, sealed_with, FitsFrame}
 use Rattle.dp_session.specs.Needs.{need_of, needs_ring, missing_of, sealed_len, HasBadDates}
 use Rattle.dp_session.specs.Responding as by
 use Rattle.dp_session.specs.Responding.{Responds}
@@ -46,7 +46,7 @@ use Rattle.dp_session.specs.Serving.{Serves, by_ring, by_place, misdated, unread
 use Rattle.dp_session.proofs.Paths.{own_by_ring, placed_last, drawn_key_id}
 
 -- a reply is short where its text is
-pub short_body : (r : Reply) → HasRoom r → length (reply_body r) < 2 ^ 32
+pub short_body : (r : Reply) → FitsFrame r → length (reply_body r) < 2 ^ 32
 unfolding reply_body
 short_body (replies.Ring front l) h = omega (arith, length-append (field front) l.now)
 short_body (replies.Rolled front id) h = omega (arith, length-append (field front) (guid id.0), length-guid id.0)

@@ -144,5 +144,5 @@ text_in (replies.UnprotectedTimed front revoked default_changed expiry plain) = 
 text_in _ = []
 
 -- at most 18 bytes stand before the text of a reply, and 32 bits have the length of both
-abbrev pub HasRoom : Reply → Type 0
-HasRoom reply = length (text_in reply) + 18 < 2 ^ 32
+abbrev pub FitsFrame : Reply → Type 0
+FitsFrame reply = length (text_in reply) + 18 < 2 ^ 32

@@ -10,7 +10,7 @@ ghost use Rattle.dp_node.specs.Books.{books};
 ghost use Rattle.dp_wire.specs.Replies.{reply_body};
 ghost use Rattle.dp_wire.specs.Request.{Roll, Revoke, RevokeBefore};
 ghost use Rattle.dp_session.specs.declared.trace.Used.TheVariants as used;
-ghost use Rattle.dp_session.specs.Replies.{HasRoom};
+ghost use Rattle.dp_session.specs.Replies.{FitsFrame};
 ghost use Rattle.dp_session.specs.Serving.{IsAnswer, Served};
 
 use crate::response::{Response, framed, refused};
@@ -30,7 +30,7 @@ fn placed<H: HostView>(
     place: u64,
     reply: &Reply<'_>,
 ) -> Result<Response, Memory>
-    requires { HasRoom reply.now }
+    requires { FitsFrame reply.now }
     ensures { IsAnswer (used.Placed place) (reply_body reply.now) (Some (H.state host.now).own)
         result }
 {

@@ -6,7 +6,7 @@ ghost use Rattle.dp_wire.specs.declared.reply.Reply.TheVariants as replies;
 ghost use Rattle.dp_wire.specs.Frame.{frame};
 ghost use Rattle.dp_wire.specs.Replies.{reply_body};
 ghost use Rattle.dp_session.specs.declared.trace.Used.TheVariants as used;
-ghost use Rattle.dp_session.specs.Replies.{HasRoom, refusal_reply};
+ghost use Rattle.dp_session.specs.Replies.{FitsFrame, refusal_reply};
 ghost use Rattle.dp_session.specs.Responding.{IsByRing};
 ghost use Rattle.dp_session.specs.Serving.{IsAnswer};
 
@@ -28,7 +28,7 @@ pub(crate) struct Response {
 
 /// The frame of a reply.
 pub(crate) fn framed(alloc: Global, reply: &Reply<'_>) -> Result<Vec<u8>, Memory>
-    requires { HasRoom reply.now }
+    requires { FitsFrame reply.now }
     ensures { IfOk result (λ bytes. bytes.items ≡ frame (reply_body reply.now)) }
 {
     let mut bytes = Vec::new(alloc);
@@ -38,7 +38,7 @@ pub(crate) fn framed(alloc: Global, reply: &Reply<'_>) -> Result<Vec<u8>, Memory
 
 // The reply that a call was refused; none where it wanted memory.
 fn reply_of(why: &NodeError) -> Option<Reply<'static>>
-    ensures { MatchOption result (why.now ≡ errors.Memory) (λ reply. HasRoom reply
+    ensures { MatchOption result (why.now ≡ errors.Memory) (λ reply. FitsFrame reply
         × (reply_body reply ≡ refusal_reply why.now) × (why.now ≢ errors.Memory)) }
 {
     match why {
@@ -90,7 +90,7 @@ pub(crate) fn bad_request(alloc: Global, why: BadRequest) -> Result<Response, Me
 
 /// An answer by the ring, whose list goes to the trace.
 pub(crate) fn by_ring(alloc: Global, ring: &Ring, reply: &Reply<'_>) -> Result<Response, Memory>
-    requires { HasRoom reply.now }
+    requires { FitsFrame reply.now }
     ensures { IsByRing ring.now (reply_body reply.now) result }
 {
     let reply = framed(alloc, reply)?;

@@ -1,6 +1,6 @@
 //! Calls that append an element to what a pass has seen.
 
-ghost use Rattle.std.specs.Prelude.{◌≡◌, ◌↔◌, ◌+◌, ◌<◌, ◌≤◌, false, true, ℕ, List, [], length, IfOk, Err};
+ghost use Rattle.std.specs.Prelude.{◌≡◌, ◌↔◌, ◌+◌, ◌<◌, ◌≤◌, false, true, ℕ, List, [], length, IfOk, Err, OnErr};
 ghost use Rattle.dp_base.specs.declared.ticks.TheConstants.{LAST, MAX_TICKS};
 ghost use Rattle.dp_base.specs.Codes.{code_of};
 ghost use Rattle.dp_base.specs.Draws.{DrawState};
@@ -12,7 +12,7 @@ ghost use Rattle.repo_keeper.specs.Made.{key_of_draw, AreBadDates};
 ghost use Rattle.ring_world.specs.Placing.{PlacePath};
 ghost use Rattle.dp_node.specs.declared.error.NodeError.TheVariants.{BadDates};
 ghost use Rattle.dp_node.specs.Books.{books, Does};
-ghost use Rattle.dp_node.specs.Gather.{seen};
+ghost use Rattle.dp_node.specs.Gather.{IsKeyElement, seen};
 ghost use Rattle.dp_node.specs.Places.{asked, placed, EndsWithKey, IsIdOf};
 
 use crate::error::NodeError;
@@ -48,6 +48,7 @@ fn place_on<W, H: Host<W>, R: Repo<W>>(
         (books steps.old (H.state host.old) (R.store repo.old) draws)
         (books steps.new (H.state host.new) (R.store repo.new) draws) }
     ensures last { IfOk result (λ _. EndsWith element.now (H.state host.new).own) }
+    ensures unchanged { OnErr result (host.new ≡ host.old) }
     ensures held { (H.state host.new).held ≡ (H.state host.old).held }
     ensures grows { Extends (H.state host.new).own (H.state host.old).own }
     ensures room { length steps.new ≤ length steps.old + 3 }
@@ -63,16 +64,12 @@ fn place_on<W, H: Host<W>, R: Repo<W>>(
 
 // The id of a key.
 fn id_of(element: &Element) -> KeyId
+    requires { IsKeyElement element.now }
     ensures { IsIdOf result element.now }
 {
     match element {
         Element::Key(record) => record.id,
-        Element::RevokeKey {
-            id,
-            date: _,
-            reason: _,
-        } => *id,
-        Element::RevokeBefore { date: _, reason: _ } => KeyId(0),
+        Element::RevokeKey { .. } | Element::RevokeBefore { .. } => unreachable!(),
     }
 }
 
@@ -109,6 +106,7 @@ pub fn roll<W, H: Host<W>, R: Repo<W>, D: Draw>(
     ensures untouched { AreBadDates now activation expiration → (host.new ≡ host.old) ×
         (repo.new ≡ repo.old) × (draw.new ≡ draw.old) × (steps.new ≡ []) }
     ensures id { IfOk result (λ placed. EndsWithKey placed.id (H.state host.new).own) }
+    ensures unchanged { OnErr result (host.new ≡ host.old) }
     ensures held { (H.state host.new).held ≡ (H.state host.old).held }
     ensures grows { Extends (H.state host.new).own (H.state host.old).own }
     ensures few { length steps.new ≤ 24 }
@@ -141,6 +139,7 @@ pub fn revoke<W, H: Host<W>, R: Repo<W>>(
         (H.state host.new).own)
         (books [] (H.state host.old) (R.store repo.old) draws)
         (books steps.new (H.state host.new) (R.store repo.new) draws) }
+    ensures unchanged { OnErr result (host.new ≡ host.old) }
     ensures held { (H.state host.new).held ≡ (H.state host.old).held }
     ensures grows { Extends (H.state host.new).own (H.state host.old).own }
     ensures few { length steps.new ≤ 24 }
@@ -171,6 +170,7 @@ pub fn revoke_before<W, H: Host<W>, R: Repo<W>>(
     ensures bad_dates { (result ≡ Err BadDates) ↔ (MAX_TICKS < date) }
     ensures untouched { MAX_TICKS < date → (host.new ≡ host.old) × (repo.new ≡ repo.old) ×
         (steps.new ≡ []) }
+    ensures unchanged { OnErr result (host.new ≡ host.old) }
     ensures held { (H.state host.new).held ≡ (H.state host.old).held }
     ensures grows { Extends (H.state host.new).own (H.state host.old).own }
     ensures few { length steps.new ≤ 24 }

@@ -57,14 +57,21 @@ draw_len-none : (ring : RingOf) → default_key ring.list ring.made_at ≡ None 
 unfolding draw_len
 draw_len-none ring e = ap draw_len_under e
 
--- a request p to protect a text that may be so long: what is given of the bytes drawn
-module _ (app : List ℕ) (now : ℕ) (p : Request) (ring : RingOf) (most : ℕ) (text : List ℕ) (inner : List ℕ → Result (List ℕ) ProtectRefused) (replies_are : (d : List ℕ) → answer_by app now p ring d ≡ protected_reply (length ring.list) (within most text (inner d))) (len_is : sealed_len p ring ≡ drawn_within most text ring) (seal : seals p ≡ true) (keyless : default_key ring.list ring.made_at ≡ None → (d : List ℕ) → inner d ≡ Err protecting.NoDefaultKey) (r : Result Response Memory) (old new : DrawState) where
+-- the request asks for a payload of a text that may be so long, of which this is made of the bytes drawn
+pub record AsksForPayload (app : List ℕ) (now : ℕ) (p : Request) (ring : RingOf) (most : ℕ) (text : List ℕ) (inner : List ℕ → Result (List ℕ) ProtectRefused) : Type 0 where
+  pub replies_are : (d : List ℕ) → answer_by app now p ring d ≡ protected_reply (length ring.list) (within most text (inner d))
+  pub len_is : sealed_len p ring ≡ drawn_within most text ring
+  pub seal : seals p ≡ true
+  pub keyless : default_key ring.list ring.made_at ≡ None → (d : List ℕ) → inner d ≡ Err protecting.NoDefaultKey
+
+-- what is answered to such a request
+module _ {app : List ℕ} {now : ℕ} {p : Request} {ring : RingOf} {most : ℕ} {text : List ℕ} {inner : List ℕ → Result (List ℕ) ProtectRefused} (asks : AsksForPayload app now p ring most text inner) (r : Result Response Memory) (old new : DrawState) where
   -- bytes within the limit are sealed with as many as the ring's key needs
   whole_len : nat_lt most (length text) ≡ false → sealed_len p ring ≡ draw_len ring
-  whole_len e = len_is ∙ rw e refl
+  whole_len e = asks.len_is ∙ rw e refl
 
   answer_is : (d body : List ℕ) (g : Result (List ℕ) ProtectRefused) → within most text (inner d) ≡ g → body ≡ protected_reply (length ring.list) g → IsByRing ring body r → IsByRing ring (answer_by app now p ring d) r
-  answer_is d body g e f is = subst (λ (b : List ℕ). IsByRing ring b r) (f ∙ ap (protected_reply (length ring.list)) (sym e) ∙ sym (replies_are d)) is
+  answer_is d body g e f is = subst (λ (b : List ℕ). IsByRing ring b r) (f ∙ ap (protected_reply (length ring.list)) (sym e) ∙ sym (asks.replies_are d)) is
 
   pub made : (v : List ℕ) → Sealed (draw_len ring) (λ d. within most text (inner d)) old new v → IsByRing ring (0 ∷ field (length ring.list) ++ v) r → Responds app now p ring r old new
   made v s is =
@@ -78,12 +85,12 @@ module _ (app : List ℕ) (now : ℕ) (p : Request) (ring : RingOf) (most : ℕ)
   too_long : (len : ℕ) → most < length text → len ≡ length text → new ≡ old → IsByRing ring (reply_body (replies.TooLong (length ring.list) len)) r → Responds app now p ring r old new
   too_long len long is same told =
       let over = lt-ltb most (length text) long in
-      by.answered [] (sym (len_is ∙ rw over refl)) (untouched same) (answer_is [] _ (Err (protecting.TooLong len)) (rw over (ap (λ (n : ℕ). kept_from (protecting.TooLong n)) (sym is))) refl told)
+      by.answered [] (sym (asks.len_is ∙ rw over refl)) (untouched same) (answer_is [] _ (Err (protecting.TooLong len)) (rw over (ap (λ (n : ℕ). kept_from (protecting.TooLong n)) (sym is))) refl told)
 
   no_key : length text ≤ most → default_key ring.list ring.made_at ≡ None → new ≡ old → IsByRing ring (reply_body (replies.NoDefaultKey (length ring.list))) r → Responds app now p ring r old new
   no_key short none same told =
       let under = le-ltb most (length text) short in
-      by.answered [] (sym (whole_len under ∙ draw_len-none ring none)) (untouched same) (answer_is [] _ (Err protecting.NoDefaultKey) (rw under (keyless none [])) refl told)
+      by.answered [] (sym (whole_len under ∙ draw_len-none ring none)) (untouched same) (answer_is [] _ (Err protecting.NoDefaultKey) (rw under (asks.keyless none [])) refl told)
 
   lost_draw : length text ≤ most → (new ≡ old) ⊎ Drew (draw_len ring) old new → IsErr r → Responds app now p ring r old new
   lost_draw short (inl same) none = by.stopped none same
@@ -99,7 +106,7 @@ module _ (app : List ℕ) (now : ℕ) (p : Request) (ring : RingOf) (most : ℕ)
       → IsUnmade why ring r → Responds app now p ring r old new
   unmade (protecting.TooLong len) long key early fault memory told = let l = long len refl in too_long len l.0 l.1 (early tt) told
   unmade protecting.NoDefaultKey long key early fault memory told = let k = key refl in no_key k.0 k.1 (early tt) told
-  unmade protecting.DrawFault long key early fault memory told = by.undrawn seal (fault refl) told
+  unmade protecting.DrawFault long key early fault memory told = by.undrawn asks.seal (fault refl) told
   unmade protecting.Memory long key early fault memory told = let m = memory refl in lost_draw m.0 m.1 told
 
   -- the same from the clauses of such a call, of whatever it gives

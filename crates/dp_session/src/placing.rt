@@ -1,6 +1,6 @@
 //! Requests whose element is appended to what the pass has seen.
 
-ghost use Rattle.std.specs.Prelude.{◌≡◌, ◌≤◌, false, ℕ, List, [], Some, Ok, MatchOption};
+ghost use Rattle.std.specs.Prelude.{◌≡◌, ◌≤◌, false, ℕ, List, [], Some, Ok, IfOk, MatchOption};
 ghost use Rattle.dp_base.specs.declared.ticks.TheConstants.{LAST};
 ghost use Rattle.dp_base.specs.Codes.{IsCode};
 ghost use Rattle.dp_base.specs.Draws.{DrawState};
@@ -18,7 +18,7 @@ use crate::trace::Used;
 use dp_base::{Draw, Grows, KeyId, Memory, alg_of};
 use dp_node::{Host, HostView, revoke, revoke_before, roll};
 use dp_wire::Reply;
-use key_elements::Reason;
+use key_elements::{Reason, TooLong};
 use repo_keeper::Repo;
 use ring_world::StepList;
 use std::alloc::Global;
@@ -39,6 +39,18 @@ fn placed<H: HostView>(
         reply: framed(alloc, reply)?,
         list: Some(host.own().share()?),
     })
+}
+
+// A copy of a reason.
+fn kept(alloc: Global, reason: &str) -> Result<Reason, Memory>
+    requires { IsReason reason.now }
+    ensures value { IfOk result (λ kept. kept ≡ reason.now) }
+{
+    match Reason::new(alloc, reason) {
+        Ok(reason) => Ok(reason),
+        Err(TooLong::TooLong) => unreachable!(),
+        Err(TooLong::Memory) => Err(Memory),
+    }
 }
 
 /// A new key of these dates, in ticks.
@@ -65,9 +77,8 @@ pub(crate) fn place_key<W, H: Host<W>, R: Repo<W>, D: Draw>(
     ensures free { (H.state host.new).held ≡ false }
     ensures grows { Extends (H.state host.new).own (H.state host.old).own }
 {
-    let alg = match alg_of(code) {
-        Some(alg) => alg,
-        None => return Err(Memory),
+    let Some(alg) = alg_of(code) else {
+        unreachable!()
     };
     match roll(
         w, alloc, host, repo, draw, now, activation, expiration, alg, steps,
@@ -103,10 +114,7 @@ pub(crate) fn place_revocation<W, H: Host<W>, R: Repo<W>>(
     ensures free { (H.state host.new).held ≡ false }
     ensures grows { Extends (H.state host.new).own (H.state host.old).own }
 {
-    let reason = match Reason::new(alloc, reason) {
-        Ok(reason) => reason,
-        Err(_) => return Err(Memory),
-    };
+    let reason = kept(alloc, reason)?;
     match revoke(w, alloc, host, repo, now, id, reason, steps) {
         Ok(place) => {
             let front = host.own().len();
@@ -137,10 +145,7 @@ pub(crate) fn place_mass_revocation<W, H: Host<W>, R: Repo<W>>(
     ensures free { (H.state host.new).held ≡ false }
     ensures grows { Extends (H.state host.new).own (H.state host.old).own }
 {
-    let reason = match Reason::new(alloc, reason) {
-        Ok(reason) => reason,
-        Err(_) => return Err(Memory),
-    };
+    let reason = kept(alloc, reason)?;
     match revoke_before(w, alloc, host, repo, date, reason, steps) {
         Ok(place) => {
             let front = host.own().len();

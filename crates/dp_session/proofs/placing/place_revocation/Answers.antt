@@ -8,23 +8,23 @@ use Rattle.dp_wire.specs.Request.{Revoke}
 use Rattle.dp_session.proofs.Answers.{placed_given, placed_refused, front_at}
 use Rattle.dp_session.proofs.placing.place_revocation.Goals as goal
 
-pub returns-in-Ok-revoke-clause-served : goal.returns-in-Ok-revoke-clause-served
-returns-in-Ok-revoke-clause-served g c = λ app draws.
+pub returns-in-Ok-clause-served : goal.returns-in-Ok-clause-served
+returns-in-Ok-clause-served g c = λ app draws.
     let p = Revoke c.args.id.0 c.args.reason.now in
     let own = (g.H.HostView.state c.args.host.now).own in
     let told = (g.R.Repo.store c.revoke.new.repo).list in
-    let a : Asked = asked own false (λ _. RevokeKey c.args.id c.args.now c.in-Ok.reason) told in
-    let x = c.in-Ok-revoke.ensures.path draws in
-    let asks = ap (λ (text : List ℕ). asked own false (λ _. RevokeKey c.args.id c.args.now text) told) c.in-Ok.ensures.value in
-    let front = front_at a c.in-Ok-revoke.place c.len-front.result _ c.own.result.now x.course x.is c.own.ensures c.len-front.ensures.value in
-    (x.course.drawn, placed_given app p c.args.now a _ _ (λ bad. bad) asks c.in-Ok-revoke.place _ _ x c.placed.ensures (ap (λ (n : ℕ). reply_body (replies.Revoked n)) front))
+    let a : Asked = asked own false (λ _. RevokeKey c.args.id c.args.now c.in_ok-reason.reason) told in
+    let x = c.in-Ok.ensures.path draws in
+    let asks = ap (λ (text : List ℕ). asked own false (λ _. RevokeKey c.args.id c.args.now text) told) c.in_ok-reason.ensures.value in
+    let front = front_at a c.in-Ok.place c.len-front.result _ c.own.result.now x.course x.is c.own.ensures c.len-front.ensures.value in
+    (x.course.drawn, placed_given app p c.args.now a _ _ (λ bad. bad) asks c.in-Ok.place _ _ x c.placed.ensures (ap (λ (n : ℕ). reply_body (replies.Revoked n)) front))
 
-pub returns-in-Err-revoke-clause-served : goal.returns-in-Err-revoke-clause-served
-returns-in-Err-revoke-clause-served g c = λ app draws.
+pub returns-in-Err-clause-served : goal.returns-in-Err-clause-served
+returns-in-Err-clause-served g c = λ app draws.
     let p = Revoke c.args.id.0 c.args.reason.now in
     let own = (g.H.HostView.state c.args.host.now).own in
     let told = (g.R.Repo.store c.revoke.new.repo).list in
-    let a : Asked = asked own false (λ _. RevokeKey c.args.id c.args.now c.in-Ok.reason) told in
-    let x = c.in-Err-revoke.ensures.path draws in
-    let asks = ap (λ (text : List ℕ). asked own false (λ _. RevokeKey c.args.id c.args.now text) told) c.in-Ok.ensures.value in
-    (x.course.drawn, placed_refused app p c.args.now a _ _ (λ bad. bad) asks c.in-Err-revoke.why _ x c.refused.ensures.known c.refused.ensures.answer)
+    let a : Asked = asked own false (λ _. RevokeKey c.args.id c.args.now c.in_ok-reason.reason) told in
+    let x = c.in-Err.ensures.path draws in
+    let asks = ap (λ (text : List ℕ). asked own false (λ _. RevokeKey c.args.id c.args.now text) told) c.in_ok-reason.ensures.value in
+    (x.course.drawn, placed_refused app p c.args.now a _ _ (λ bad. bad) asks c.in-Err.why _ x c.refused.ensures.known c.refused.ensures.answer)

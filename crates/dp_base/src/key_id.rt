@@ -53,7 +53,8 @@ impl FromStr for KeyId {
     type Err = uuid::Error;
 
     ghost from_str_gives = { λ text result. (IsOk result ↔ ((u : List ℕ) × (parsed text ≡ Some u)))
-        × IfOk result (λ id. (u : List ℕ) × (parsed text ≡ Some u) × (id.0 ≡ from_be_bytes w128 u)) };
+        × IfOk result (λ id. (u : List ℕ) × (parsed text ≡ Some u)
+        × (id.0 ≡ from_be_bytes w128 u)) };
 
     fn from_str(text: &str) -> Result<KeyId, uuid::Error> {
         match Uuid::parse_str(text) {

@@ -125,7 +125,8 @@ impl Draw for ChaChaDraw {
 
     fn fill(&mut self, out: &mut [u8]) -> Result<(), Failed>
         ensures ok { IsOk result }
-        ensures bytes { (out.new, self.new) ≡ fill_via_u32 (next_word 10) (length out.old) self.old }
+        ensures bytes { (out.new, self.new)
+            ≡ fill_via_u32 (next_word 10) (length out.old) self.old }
     {
         fill_bytes_via_u32(&mut self.rng, out);
         Ok(())

@@ -31,7 +31,8 @@ pub fn read_full<I: Source>(input: &mut I, buffer: &mut [u8]) -> Result<usize, F
 /// Writes all the bytes; after a failure a front of them is written.
 pub fn write_all<O: Sink>(output: &mut O, bytes: &[u8]) -> Result<(), Failed>
     ensures ok { OnOk result (Writes (O.written output.old) (O.written output.new) bytes.now) }
-    ensures err { OnErr result (WritesFront (O.written output.old) (O.written output.new) bytes.now) }
+    ensures err { OnErr result
+        (WritesFront (O.written output.old) (O.written output.new) bytes.now) }
     ensures no_fault { OnOk result (O.faults output.new ≡ O.faults output.old) }
     ensures fault { OnErr result (O.faults output.new ≡ one_more (O.faults output.old)) }
 {

@@ -62,7 +62,8 @@ pub extern "C" fn dp_cbc_open(
         × ((length body.now ≡ 0) ⊎ (length body.now % 16 ≢ 0))) }
     ensures bad_padding { result ≡ BAD_PADDING → HasWholeBlocks body.now
         × ¬ (IsPadded (plaintext (aes_decipher key.now) iv.now body.now)) }
-    ensures no_room { result ≡ NO_ROOM → (text : List ℕ) × AreBytes text × (length out.old < length text)
+    ensures no_room { result ≡ NO_ROOM → (text : List ℕ) × AreBytes text
+        × (length out.old < length text)
         × (body.now ≡ ciphertext (aes_cipher key.now) iv.now (pad text)) }
     ensures only { (text : List ℕ) → AreBytes text → IsKeyLength (length key.now)
         → body.now ≡ ciphertext (aes_cipher key.now) iv.now (pad text)

@@ -102,9 +102,11 @@ impl Encryptor {
             → MatchResult result (λ v. v.items ≡ text) (λ e. e ≡ BodyRefused.Memory) }
 
         // A wrong tag is told before memory is asked for.
-        ensures wrong_tag { ¬ HasTag self.now.alg (subkeys self.now aad.now body.entry.modifier) body.entry
+        ensures wrong_tag { ¬ HasTag self.now.alg
+            (subkeys self.now aad.now body.entry.modifier) body.entry
             → result ≡ Err BodyRefused.Tampered }
-        ensures not_padded { ¬ Unpads self.now.alg (subkeys self.now aad.now body.entry.modifier) body.entry
+        ensures not_padded { ¬ Unpads self.now.alg
+            (subkeys self.now aad.now body.entry.modifier) body.entry
             → (result ≡ Err BodyRefused.Tampered) ⊎ (result ≡ Err BodyRefused.Memory) }
         ensures tampered { result ≡ Err BodyRefused.Tampered
             → (¬ HasTag self.now.alg (subkeys self.now aad.now body.entry.modifier) body.entry)

@@ -26,7 +26,8 @@ pub fn seal_cbc<P: Prf>(
 ) -> Result<Vec<u8>, Memory>
     requires { length iv.now ≡ 16 }
     ensures { IfOk result (λ v. v.items
-        ≡ modifier.now ++ iv.now ++ ciphertext (aes_cipher keys.now.encryption) iv.now (pad plain.now)
+        ≡ modifier.now ++ iv.now
+        ++ ciphertext (aes_cipher keys.now.encryption) iv.now (pad plain.now)
         ++ P.value keys.now.validation
         (iv.now ++ ciphertext (aes_cipher keys.now.encryption) iv.now (pad plain.now))) }
 {
@@ -73,7 +74,8 @@ pub fn open_cbc<P: Prf>(
         → body.now.enciphered
         ≡ ciphertext (aes_cipher keys.now.encryption) body.now.iv (pad text)
         → MatchResult result (λ v. v.items ≡ text) (λ e. e ≡ BodyRefused.Memory) }
-    ensures wrong_tag { body.now.tag ≢ P.value keys.now.validation (body.now.iv ++ body.now.enciphered)
+    ensures wrong_tag { body.now.tag
+        ≢ P.value keys.now.validation (body.now.iv ++ body.now.enciphered)
         → result ≡ Err BodyRefused.Tampered }
     ensures not_padded { ¬ (HasWholeBlocks body.now.enciphered × IsPadded
         (plaintext (aes_decipher keys.now.encryption) body.now.iv body.now.enciphered))

@@ -20,7 +20,7 @@ use Rattle.key_ring.specs.Keys.{keys_of, ring_key, ring_keys, fact_of, facts}
 use Rattle.key_ring.specs.Ring.{policy_at, preferred_key, chosen}
 use Rattle.key_ring.specs.State.{State, state, lookup_of}
 use Rattle.key_ring.proofs.KeysOf.{HaveIds, keys_of-ids}
-use Rattle.ring_world.specs.Flight.{activation_of}
+use Rattle.ring_world.specs.Flight.{Terms, activation_of, makes_key}
 
 slice_get-map : {X Y : Type 0} (f : X → Y) (xs : List X) (i : ℕ) (x : X) → slice_get xs i ≡ Some x → slice_get (map f xs) i ≡ Some (f x)
 slice_get-map f [] i x e = cc
@@ -93,7 +93,7 @@ activation_by es t None e r = omega arith
 activation_by es t (Some k) e r = preferred_at es t k (preferred_of (facts es) t) refl e r
 
 -- a new key is activated within the span of propagation
-pub activation-soon : (es : List Element) (t : ℕ) → (policy_at es t).renew ≡ true → activation_of t (preferred_key es t) ≤ t + PROPAGATION
+activation-soon : (es : List Element) (t : ℕ) → (policy_at es t).renew ≡ true → activation_of t (preferred_key es t) ≤ t + PROPAGATION
 activation-soon es t r = activation_by es t (preferred_key es t) refl r
 
 same_of : (a b : ℕ) → (a == b) ≡ true → a ≡ b
@@ -143,14 +143,19 @@ activation-lost es t id i f =
     cc (k.2)
 
 -- a key that is made is due
-pub renews : (auto renew room : Bool) → (auto && renew && room) ≡ true → renew ≡ true
+renews : (auto renew room : Bool) → (auto && renew && room) ≡ true → renew ≡ true
 renews true true room h = refl
 renews true false room h = cc
 renews false renew room h = cc
 
--- the dates of a key that is due aren't bad: a lifetime has a week, and a clock stops ten years before
--- the greatest date
-pub dates_good : (now activation lifetime : ℕ) → activation ≤ now + PROPAGATION → 7 * TICKS_PER_DAY ≤ lifetime → lifetime ≤ 3650 * TICKS_PER_DAY → now ≤ LAST → AreBadDates now activation (now + lifetime) → ⊥
+dates_good : (now activation lifetime : ℕ) → activation ≤ now + PROPAGATION → 7 * TICKS_PER_DAY ≤ lifetime → lifetime ≤ 3650 * TICKS_PER_DAY → now ≤ LAST → AreBadDates now activation (now + lifetime) → ⊥
 dates_good now activation lifetime a l m n (inl b) = absurd (omega arith)
 dates_good now activation lifetime a l m n (inr (inl b)) = absurd (omega arith)
 dates_good now activation lifetime a l m n (inr (inr b)) = absurd (omega arith)
+
+-- the dates of a key that a flight makes aren't bad: a lifetime has a week, and a clock stops ten years
+-- before the greatest date
+pub made-good : (t : Terms) (es : List Element) (activation : ℕ) → makes_key t es ≡ true → activation ≡ activation_of t.now (preferred_key es t.now) → t.now ≤ LAST → AreBadDates t.now activation (t.now + t.options.lifetime) → ⊥
+made-good t es activation makes is late =
+    let o = t.options in
+    dates_good t.now activation o.lifetime (subst (λ n. n ≤ t.now + PROPAGATION) (sym is) (activation-soon es t.now (renews o.auto _ _ makes))) o.at_least_a_week o.at_most_ten_years late

@@ -1,6 +1,6 @@
 //! What a flight reads, draws and appends.
 
-ghost use Rattle.std.specs.Prelude.{◌/◌, Bool, ◌≡◌, ◌+◌, ◌-◌, ◌<◌, ◌≤◌, ◌++◌, ◌∷◌, [], ℕ, List, length, map, IfOk, Option, IsTrue};
+ghost use Rattle.std.specs.Prelude.{◌/◌, Bool, ◌≡◌, ◌↔◌, ◌+◌, ◌-◌, ◌<◌, ◌≤◌, ◌++◌, ◌∷◌, [], ℕ, List, length, map, Err, IfOk, Option, IsTrue};
 ghost use Rattle.std.specs.List.{AllByRecursion};
 ghost use Rattle.default_key.specs.declared.options.Options.{Options};
 ghost use Rattle.dp_base.specs.Draws.{DrawState};
@@ -14,6 +14,7 @@ ghost use Rattle.key_ring.specs.Ring.{preferred_key};
 ghost use Rattle.repo_keeper.specs.Store.{Store};
 ghost use Rattle.repo_keeper.specs.Made.{key_of_draw, AreBadDates};
 ghost use Rattle.ring_world.specs.Flight.{Gathers, activation_of, jitter_of, makes_key};
+ghost use Rattle.dp_node.specs.declared.error.NodeError.TheVariants.{BadDates};
 ghost use Rattle.dp_node.specs.HostState.{HostState};
 ghost use Rattle.dp_node.specs.Books.{books, Does};
 ghost use Rattle.dp_node.specs.Calls.{terms};
@@ -180,7 +181,7 @@ fn activation_of(ring: &Ring, now: u64) -> u64
     }
 }
 
-/// Draws the eighty bytes of a key, and makes it.
+/// Draws the eighty bytes of a key, and makes it. Its dates are tested before anything is drawn.
 pub(crate) fn draw_key<D: Draw>(
     draw: &mut D,
     creation: u64,
@@ -190,11 +191,14 @@ pub(crate) fn draw_key<D: Draw>(
     steps: &mut StepList,
 ) -> Result<Element, NodeError>
     requires room { length steps.old + 1 ≤ 24 }
-    requires dates { AreBadDates creation activation expiration → ⊥ }
-    ensures did { (host : HostState) (store : Store) → Does (KeyGives
+    ensures did { (AreBadDates creation activation expiration → ⊥) → (host : HostState)
+        (store : Store) → Does (KeyGives
         (λ b. key_of_draw b creation activation expiration (code_of alg)) (seen result))
         (books steps.old host store (D.draws draw.old)) (books steps.new host store
         (D.draws draw.new)) }
+    ensures bad_dates { (result ≡ Err BadDates) ↔ AreBadDates creation activation expiration }
+    ensures untouched { AreBadDates creation activation expiration → (draw.new ≡ draw.old) ×
+        (steps.new ≡ steps.old) }
     ensures room { length steps.new ≤ length steps.old + 1 }
     ensures element { IfOk result IsElement }
     ensures key { IfOk result IsKeyElement }

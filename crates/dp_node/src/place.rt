@@ -18,7 +18,7 @@ ghost use Rattle.dp_node.specs.Places.{asked, placed, EndsWithKey, IsIdOf};
 use crate::error::NodeError;
 use crate::gather::{append_on, draw_key};
 use crate::host::{Host, HostView};
-use dp_base::{Alg, Draw, KeyId, MAX_TICKS};
+use dp_base::{Alg, Draw, KeyId};
 use key_elements::{Element, Reason};
 use repo_keeper::{Repo, mass_revocation, revocation};
 use ring_world::{Step, StepList};
@@ -73,14 +73,6 @@ fn id_of(element: &Element) -> KeyId
     }
 }
 
-// Whether a key of these dates would end before it begins, or a date is above the greatest.
-fn are_bad(creation: u64, activation: u64, expiration: u64) -> bool
-    ensures bad { result ≡ true → AreBadDates creation activation expiration }
-    ensures good { result ≡ false → AreBadDates creation activation expiration → ⊥ }
-{
-    activation >= expiration || creation > MAX_TICKS || expiration > MAX_TICKS
-}
-
 /// Makes a key, and appends it to what the pass has seen. Its dates, in ticks, are tested before
 /// anything else is done.
 pub fn roll<W, H: Host<W>, R: Repo<W>, D: Draw>(
@@ -111,9 +103,6 @@ pub fn roll<W, H: Host<W>, R: Repo<W>, D: Draw>(
     ensures grows { Extends (H.state host.new).own (H.state host.old).own }
     ensures few { length steps.new ≤ 24 }
 {
-    if are_bad(now, activation, expiration) {
-        return Err(NodeError::BadDates);
-    }
     let key = draw_key(draw, now, activation, expiration, alg, steps)?;
     let id = id_of(&key);
     let place = place_on(w, alloc, host, repo, &key, steps)?;

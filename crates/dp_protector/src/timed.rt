@@ -63,7 +63,8 @@ pub fn protect_timed<D: Draw>(
     ensures no_default_key { result ≡ Err refused.NoDefaultKey
         → (length plain.now ≤ MAX_TIMED)
         × (default_key ring.now.list ring.now.made_at ≡ None) }
-    ensures keyless { default_key ring.now.list ring.now.made_at ≡ None → length plain.now ≤ MAX_TIMED
+    ensures keyless { default_key ring.now.list ring.now.made_at ≡ None
+        → length plain.now ≤ MAX_TIMED
         → (result ≡ Err refused.NoDefaultKey) ⊎ (result ≡ Err refused.Memory) }
     ensures untouched { IsEarly result → draw.new ≡ draw.old }
 

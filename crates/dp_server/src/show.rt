@@ -66,16 +66,20 @@ pub(crate) fn show<I: Source, O: Sink>(
         (Writes (O.written output.old) (O.written output.new)) }
     ensures front { result.status ≡ WriteFault → Shows moment (I.left input.old) (I.left input.new)
         (WritesFront (O.written output.old) (O.written output.new)) }
-    ensures read_fault { result.status ≡ ReadFault → I.faults input.new ≡ one_more (I.faults input.old) }
+    ensures read_fault { result.status ≡ ReadFault
+        → I.faults input.new ≡ one_more (I.faults input.old) }
     ensures no_read_fault { result.status ≢ ReadFault → I.faults input.new ≡ I.faults input.old }
     ensures write_fault { result.status ≡ WriteFault
         → O.faults output.new ≡ one_more (O.faults output.old) }
-    ensures no_write_fault { result.status ≢ WriteFault → O.faults output.new ≡ O.faults output.old }
+    ensures no_write_fault { result.status ≢ WriteFault
+        → O.faults output.new ≡ O.faults output.old }
     ensures bad_input { result.status ≡ BadInput → IsRefused (I.left input.old) (I.left input.new) }
     ensures bad { IsSome result.bad ↔ (result.status ≡ BadInput) }
     ensures place { IfSome result.bad (IsBadPlace (I.left input.old)) }
-    ensures accepted { IfSome (I.left input.old) (λ left. IsListed left → IsAccepting result.status) }
-    ensures refused { IfSome (I.left input.old) (λ left. ¬ IsListed left → IsRefusing result.status) }
+    ensures accepted { IfSome (I.left input.old)
+        (λ left. IsListed left → IsAccepting result.status) }
+    ensures refused { IfSome (I.left input.old)
+        (λ left. ¬ IsListed left → IsRefusing result.status) }
     ensures silent { result.status ≢ Done → result.status ≢ WriteFault → output.new ≡ output.old }
     ensures takes { TakesAtMost (MAX_INPUT + 1) (I.left input.old) (I.left input.new) }
 {

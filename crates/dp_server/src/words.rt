@@ -160,7 +160,8 @@ fn pipe_of<'a>(words: &'a [String]) -> Option<PipeOptions<'a>>
 /// front; or `pipe` and its options in any order, each at most once: `--no-auto`, and `--app` with
 /// a name behind it, which isn't empty, doesn't begin with `-` and has at most `MAX_APP` bytes.
 pub fn command_of<'a>(words: &'a [String]) -> Option<Command<'a>>
-    ensures value { IfSome result (λ command. IsForm (map string_bytes words.now) (form_of command)) }
+    ensures value { IfSome result
+        (λ command. IsForm (map string_bytes words.now) (form_of command)) }
     ensures only { (form : Form) → IsForm (map string_bytes words.now) form
         → option_map form_of result ≡ Some form }
     ensures none { IsNone result ↔ ¬ IsLawful (map string_bytes words.now) }

@@ -210,7 +210,8 @@ pub(crate) fn answer<W, H: Host<W>, R: Repo<W>, D: Draw>(
     requires short { IfOk request (λ view. IsShort (request_of view)) }
     requires free { (H.state host.old).held ≡ false }
     requires room { steps.old ≡ [] }
-    ensures served { (drawn : List ℕ) × Served app.now (seen request_of request.entry) now result drawn
+    ensures served { (drawn : List ℕ)
+        × Served app.now (seen request_of request.entry) now result drawn
         (books [] (H.state host.old) (R.store repo.old) (D.draws draw.old))
         (books steps.new (H.state host.new) (R.store repo.new) (D.draws draw.new)) }
     ensures free { (H.state host.new).held ≡ false }

@@ -53,7 +53,8 @@ pub(crate) fn opened(
 ) -> Result<Response, Memory>
     requires { length payload.now < 2 ^ 32 }
     ensures { (now need : ℕ) (draws : DrawState) → Responds app.now now
-        (Unprotect need allow_revoked (chain_of chain.now.bytes.now) payload.now) ring.now result draws draws }
+        (Unprotect need allow_revoked (chain_of chain.now.bytes.now) payload.now) ring.now result
+        draws draws }
 {
     let chain = chain.to_chain(alloc, app.as_str())?;
     match unprotect_with(alloc, ring, headers, &chain, payload, allow_revoked) {
@@ -82,8 +83,9 @@ fn opened_as_text(
     allow_revoked: bool,
 ) -> Result<Response, Memory>
     requires { length payload.now < 2 ^ 32 }
-    ensures { (now need : ℕ) (text : List ℕ) (draws : DrawState) → payload_of text ≡ Some payload.now
-        → Responds app.now now (UnprotectText need allow_revoked (chain_of chain.now.bytes.now) text) ring.now result
+    ensures { (now need : ℕ) (text : List ℕ) (draws : DrawState)
+        → payload_of text ≡ Some payload.now → Responds app.now now
+        (UnprotectText need allow_revoked (chain_of chain.now.bytes.now) text) ring.now result
         draws draws }
 {
     let chain = chain.to_chain(alloc, app.as_str())?;
@@ -118,8 +120,8 @@ pub(crate) fn opened_text(
 ) -> Result<Response, Memory>
     requires { IfSome payload.now (λ bytes. length bytes.items < 2 ^ 32) }
     ensures { (now need : ℕ) (text : List ℕ) (draws : DrawState)
-        → payload_of text ≡ kept payload.now
-        → Responds app.now now (UnprotectText need allow_revoked (chain_of chain.now.bytes.now) text) ring.now result
+        → payload_of text ≡ kept payload.now → Responds app.now now
+        (UnprotectText need allow_revoked (chain_of chain.now.bytes.now) text) ring.now result
         draws draws }
 {
     match payload {
@@ -152,7 +154,8 @@ pub(crate) fn opened_timed(
 ) -> Result<Response, Memory>
     requires { length payload.now < 2 ^ 32 }
     ensures { (need : ℕ) (draws : DrawState) → Responds app.now now
-        (UnprotectTimed need allow_revoked (chain_of chain.now.bytes.now) payload.now) ring.now result draws draws }
+        (UnprotectTimed need allow_revoked (chain_of chain.now.bytes.now) payload.now) ring.now
+        result draws draws }
 {
     let chain = chain.to_chain(alloc, app.as_str())?;
     let front = ring.list().len();

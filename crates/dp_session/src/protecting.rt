@@ -39,8 +39,9 @@ pub(crate) fn protected<D: Draw>(
     chain: &ChainView<'_>,
     plain: &[u8],
 ) -> Result<Response, Memory>
-    ensures { (now need : ℕ) → Responds app.now now (Protect need (chain_of chain.now.bytes.now) plain.now) ring.now
-        result (D.draws draw.old) (D.draws draw.new) }
+    ensures { (now need : ℕ) → Responds app.now now
+        (Protect need (chain_of chain.now.bytes.now) plain.now) ring.now result
+        (D.draws draw.old) (D.draws draw.new) }
 {
     let chain = chain.to_chain(alloc, app.as_str())?;
     match protect_with(alloc, ring, headers, &chain, draw, plain) {
@@ -63,8 +64,9 @@ pub(crate) fn protected_text<D: Draw>(
     chain: &ChainView<'_>,
     text: &str,
 ) -> Result<Response, Memory>
-    ensures { (now need : ℕ) → Responds app.now now (ProtectText need (chain_of chain.now.bytes.now) text.now) ring.now
-        result (D.draws draw.old) (D.draws draw.new) }
+    ensures { (now need : ℕ) → Responds app.now now
+        (ProtectText need (chain_of chain.now.bytes.now) text.now) ring.now result
+        (D.draws draw.old) (D.draws draw.new) }
 {
     let chain = chain.to_chain(alloc, app.as_str())?;
     match protect_text(alloc, ring, headers, &chain, draw, text) {
@@ -89,8 +91,9 @@ pub(crate) fn protected_timed<D: Draw>(
     plain: &[u8],
 ) -> Result<Response, Memory>
     requires { expiry ≤ MAX_TICKS }
-    ensures { (now need : ℕ) → Responds app.now now (ProtectTimed need (chain_of chain.now.bytes.now) expiry plain.now)
-        ring.now result (D.draws draw.old) (D.draws draw.new) }
+    ensures { (now need : ℕ) → Responds app.now now
+        (ProtectTimed need (chain_of chain.now.bytes.now) expiry plain.now) ring.now result
+        (D.draws draw.old) (D.draws draw.new) }
 {
     let chain = chain.to_chain(alloc, app.as_str())?;
     match protect_timed(alloc, ring, headers, &chain, draw, expiry, plain) {

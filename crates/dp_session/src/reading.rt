@@ -87,7 +87,8 @@ fn cut(count: usize, len: u32) -> Unread
 fn read_body<I: Source>(alloc: Global, input: &mut I, len: u32) -> Result<Body, Unread>
     ensures body { ReadsBody len result (I.left input.old) (I.left input.new) }
     ensures takes { TakesAtMost len (I.left input.old) (I.left input.new) }
-    ensures fault { result ≡ Err unread.Failed → I.faults input.new ≡ one_more (I.faults input.old) }
+    ensures fault { result ≡ Err unread.Failed
+        → I.faults input.new ≡ one_more (I.faults input.old) }
     ensures no_fault { result ≢ Err unread.Failed → I.faults input.new ≡ I.faults input.old }
 {
     let count = len as usize;
@@ -134,7 +135,8 @@ fn body_len(head: &[u8; 4]) -> Result<u32, BadWhy>
 pub(crate) fn read_frame<I: Source>(alloc: Global, input: &mut I) -> Result<Frame, Unread>
     ensures frame { ReadsFrame result (I.left input.old) (I.left input.new) }
     ensures takes { TakesAtMost (4 + MAX_BODY) (I.left input.old) (I.left input.new) }
-    ensures fault { result ≡ Err unread.Failed → I.faults input.new ≡ one_more (I.faults input.old) }
+    ensures fault { result ≡ Err unread.Failed
+        → I.faults input.new ≡ one_more (I.faults input.old) }
     ensures no_fault { result ≢ Err unread.Failed → I.faults input.new ≡ I.faults input.old }
 {
     let mut head = [0; 4];

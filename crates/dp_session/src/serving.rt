@@ -75,7 +75,8 @@ fn answer_taped<'t, W, H: Host<W>, R: Repo<W>, D: Draw>(
     requires free { (H.state host.old).held ≡ false }
     requires room { steps.old ≡ [] }
     ensures loan { draw.new.draw.ghost_name ≡ draw.old.draw.ghost_name }
-    ensures served { (drawn : List ℕ) × Served app.now (seen request_of request.entry) now result drawn
+    ensures served { (drawn : List ℕ)
+        × Served app.now (seen request_of request.entry) now result drawn
         (books [] (H.state host.old) (R.store repo.old) (⟦<Taped<'t, D> as Draw>⟧.draws draw.old))
         (books steps.new (H.state host.new) (R.store repo.new)
         (⟦<Taped<'t, D> as Draw>⟧.draws draw.new)) }
@@ -228,14 +229,14 @@ fn serve_frame<W, H: Host<W>, R: Repo<W>, D: Draw, C: Clock, O: Sink>(
     requires body { IfSome body.now.kept (λ bytes. length bytes.items ≤ MAX_BODY) }
     requires steps { steps ≡ [] }
     requires room { vec_len entries.old < vec_capacity entries.old }
-    ensures ok { OnOk result ((bytes : List ℕ) → Reads body.now bytes → OneServed app.now Writes
-        bytes
+    ensures ok { OnOk result ((bytes : List ℕ) → Reads body.now bytes
+        → OneServed app.now Writes bytes
         (outside None (O.written output.old) (state (H.state host.old) (R.store repo.old)
         (D.draws draw.old) (C.moments clock.old)) entries.old.items list.old)
         (outside None (O.written output.new) (state (H.state host.new) (R.store repo.new)
         (D.draws draw.new) (C.moments clock.new)) entries.new.items list.new)) }
-    ensures err { OnErr result ((bytes : List ℕ) → Reads body.now bytes → OneServed app.now WritesFront
-        bytes
+    ensures err { OnErr result ((bytes : List ℕ) → Reads body.now bytes
+        → OneServed app.now WritesFront bytes
         (outside None (O.written output.old) (state (H.state host.old) (R.store repo.old)
         (D.draws draw.old) (C.moments clock.old)) entries.old.items list.old)
         (outside None (O.written output.new) (state (H.state host.new) (R.store repo.new)

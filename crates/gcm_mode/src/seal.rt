@@ -44,7 +44,8 @@ pub fn gcm_seal<B: BlockCipher>(
 ) -> Result<Vec<u8>, Memory>
     requires aad { length aad.now < 2 ^ 32 }
     requires text { length plain.now < 2 ^ 32 }
-    ensures { IfOk result (λ v. v.items ≡ sealed (B.cipher cipher.now) nonce.now aad.now plain.now) }
+    ensures { IfOk result (λ v.
+        v.items ≡ sealed (B.cipher cipher.now) nonce.now aad.now plain.now) }
 {
     let mut text = copy_enciphered(alloc, cipher, nonce, plain, 16)?;
     let tag = gcm_tag(cipher, nonce, aad, &text);

@@ -20,7 +20,8 @@ pub(crate) fn chosen(keys: &[RingKey], place: Option<usize>) -> Option<&KeyRecor
 // The preferred key, or else the key to fall back on.
 pub(crate) fn default_of(keys: &[RingKey], policy: Policy) -> Option<&KeyRecord>
     ensures { option_copied result
-        ≡ option_or (chosen (records keys.now) policy.preferred) (chosen (records keys.now) policy.fallback) }
+        ≡ option_or (chosen (records keys.now) policy.preferred)
+        (chosen (records keys.now) policy.fallback) }
 {
     match chosen(keys, policy.preferred) {
         Some(key) => Some(key),

@@ -16,7 +16,8 @@ pub struct Setter<T: Grows + Drop> {
     // The shares of a value that is about to be set.
     pub(crate) room: Vec<Item<T>>,
     ghost seated: { place.table_id ≡ (arc_value board).shared.table_id },
-    ghost sized: { (place.table_id.words ≡ 16 * place.table_id.slots) × (place.table_id.slots ≤ 64) },
+    ghost sized: { (place.table_id.words ≡ 16 * place.table_id.slots)
+        × (place.table_id.slots ≤ 64) },
     ghost filled: { 0 < place.table_id.slots },
     ghost sets: { place.me.0.sets ≡ true },
     ghost has: { place.me.0.mine ≡ Some last },
@@ -38,7 +39,8 @@ pub struct Viewer<T: Grows + Drop> {
     // What it learnt has no greater number.
     pub(crate) most: u64,
     ghost seated: { place.table_id ≡ (arc_value board).shared.table_id },
-    ghost sized: { (place.table_id.words ≡ 16 * place.table_id.slots) × (place.table_id.slots ≤ 64) },
+    ghost sized: { (place.table_id.words ≡ 16 * place.table_id.slots)
+        × (place.table_id.slots ≤ 64) },
     ghost within: { index < place.table_id.slots },
     ghost has: { place.me.0.mine ≡ Some mine },
     ghost most_is: { place.me.0.most ≡ most },

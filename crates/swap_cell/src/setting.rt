@@ -76,7 +76,8 @@ fn hand_all<T: Grows + Drop, W: Wait>(
     room: &mut Vec<Item<T>>,
     item: &Item<T>,
 )
-    requires table { IsAt board.now.shared.table_id place.old × (length room.old.items ≤ place.old.table_id.slots) }
+    requires table { IsAt board.now.shared.table_id place.old
+        × (length room.old.items ≤ place.old.table_id.slots) }
     requires free { IsFree place.old }
     requires has { place.old.me.0.mine ≡ Some item.now }
     requires alike { All (λ x. x ≡ item.now) room.old.items }

@@ -6,7 +6,7 @@ use Rattle.repo_keeper.specs.Made.{key_of_draw}
 use Rattle.dp_node.proofs.gather.draw_key.Goals as goal
 
 pub returns-in-Ok-clause-did : goal.returns-in-Ok-clause-did
-returns-in-Ok-clause-did g c = λ host store.
+returns-in-Ok-clause-did g c = λ good host store.
     let e = c.in-Ok.ensures.made in
     exactly (bare (Drawn 80 ∷ []) e.0)
     (outside (Drawn 80) e.0 _ _ host store store _ _ (λ _. refl) (λ _. refl) (λ _. refl) refl e.1 c.push.ensures (Moved-refl store) e.2)

@@ -9,30 +9,14 @@ use Rattle.dp_node.proofs.Books.{chain, as_kind}
 use Rattle.dp_node.proofs.Placings.{roll_placed, roll_undrawn, key_not_dates, place_not_dates}
 use Rattle.dp_node.proofs.place.roll.Goals as goal
 
-pub returns-then-are_bad-clause-path : goal.returns-then-are_bad-clause-path
-returns-then-are_bad-clause-path g c = λ good. absurd (good (c.are_bad.ensures.bad c.if-are_bad.true))
-
-pub returns-then-are_bad-clause-bad_dates : goal.returns-then-are_bad-clause-bad_dates
-returns-then-are_bad-clause-bad_dates g c = (λ _. c.are_bad.ensures.bad c.if-are_bad.true, λ _. refl)
-
 pub returns-in_err-key-clause-path : goal.returns-in_err-key-clause-path
 returns-in_err-key-clause-path g c = λ good.
     let h = g.H.HostView.state c.args.host.now in
     let store = g.R.Repo.store c.args.repo.now in
     let p = err_from_is_err_and c.from_residual.result c.from_residual.ensures.1 in
     let make = λ (b : List ℕ). key_of_draw b c.args.now c.args.activation c.args.expiration (code_of c.args.alg) in
-    let d = rw c.requires.room at (c.in_err-key.ensures.did h store) in
+    let d = rw c.requires.room at (c.in_err-key.ensures.did good h store) in
     rw (p.1, p.2) (as_kind d (roll_undrawn store.list h.own make (refusal c.in_err-key.field-0.0)))
-
-pub returns-in_err-key-clause-bad_dates : goal.returns-in_err-key-clause-bad_dates
-returns-in_err-key-clause-bad_dates g c =
-    let p = err_from_is_err_and c.from_residual.result c.from_residual.ensures.1 in
-    let make = λ (b : List ℕ). key_of_draw b c.args.now c.args.activation c.args.expiration (code_of c.args.alg) in
-    let d = c.in_err-key.ensures.did (g.H.HostView.state c.args.host.now) (g.R.Repo.store c.args.repo.now) in
-    (λ e. absurd (key_not_dates make c.in_err-key.field-0.0 d.course d.is (cc (p.1, p.2, e))), λ bad. absurd (c.are_bad.ensures.good c.if-are_bad.false bad))
-
-pub returns-in_err-key-clause-untouched : goal.returns-in_err-key-clause-untouched
-returns-in_err-key-clause-untouched g c = λ bad. absurd (c.are_bad.ensures.good c.if-are_bad.false bad)
 
 pub returns-in_err-place-clause-path : goal.returns-in_err-place-clause-path
 returns-in_err-place-clause-path g c = λ good.
@@ -40,7 +24,7 @@ returns-in_err-place-clause-path g c = λ good.
     let told = (g.R.Repo.store c.place_on.new.repo).list in
     let p = err_from_is_err_and c.from_residual-in_err-place.result c.from_residual-in_err-place.ensures.1 in
     let make = λ (b : List ℕ). key_of_draw b c.args.now c.args.activation c.args.expiration (code_of c.args.alg) in
-    let k = rw c.requires.room at (c.in_ok-key.ensures.did h (g.R.Repo.store c.args.repo.now)) in
+    let k = rw c.requires.room at (c.in_ok-key.ensures.did good h (g.R.Repo.store c.args.repo.now)) in
     let a = c.in_err-place.ensures.did (g.D.Draw.draws c.draw_key.new.draw) in
     rw (p.1, p.2) (chain k a (roll_placed told h.own make c.in_ok-key.key (Err (refusal c.in_err-place.field-0.0)) _))
 
@@ -50,25 +34,25 @@ returns-in_err-place-clause-bad_dates g c =
     let h = g.H.HostView.state c.args.host.now in
     let told = (g.R.Repo.store c.place_on.new.repo).list in
     let a = c.in_err-place.ensures.did (g.D.Draw.draws c.draw_key.new.draw) in
-    (λ e. absurd (place_not_dates (asked h.own false (λ _. c.in_ok-key.key) told) c.in_err-place.field-0.0 _ a.course a.is (cc (p.1, p.2, e))), λ bad. absurd (c.are_bad.ensures.good c.if-are_bad.false bad))
+    (λ e. absurd (place_not_dates (asked h.own false (λ _. c.in_ok-key.key) told) c.in_err-place.field-0.0 _ a.course a.is (cc (p.1, p.2, e))), λ bad. let e = c.in_ok-key.ensures.bad_dates.1 bad in cc)
 
 pub returns-in_err-place-clause-untouched : goal.returns-in_err-place-clause-untouched
-returns-in_err-place-clause-untouched g c = λ bad. absurd (c.are_bad.ensures.good c.if-are_bad.false bad)
+returns-in_err-place-clause-untouched g c = λ bad. let e = c.in_ok-key.ensures.bad_dates.1 bad in cc
 
 pub returns-clause-path : goal.returns-clause-path
 returns-clause-path g c = λ good.
     let h = g.H.HostView.state c.args.host.now in
     let told = (g.R.Repo.store c.place_on.new.repo).list in
     let make = λ (b : List ℕ). key_of_draw b c.args.now c.args.activation c.args.expiration (code_of c.args.alg) in
-    let k = rw c.requires.room at (c.in_ok-key.ensures.did h (g.R.Repo.store c.args.repo.now)) in
+    let k = rw c.requires.room at (c.in_ok-key.ensures.did good h (g.R.Repo.store c.args.repo.now)) in
     let a = c.in_ok-place.ensures.did (g.D.Draw.draws c.draw_key.new.draw) in
     chain k a (roll_placed told h.own make c.in_ok-key.key (Ok c.in_ok-place.place) _)
 
 pub returns-clause-bad_dates : goal.returns-clause-bad_dates
-returns-clause-bad_dates g c = (λ e. cc, λ bad. absurd (c.are_bad.ensures.good c.if-are_bad.false bad))
+returns-clause-bad_dates g c = (λ e. cc, λ bad. let e = c.in_ok-key.ensures.bad_dates.1 bad in cc)
 
 pub returns-clause-untouched : goal.returns-clause-untouched
-returns-clause-untouched g c = λ bad. absurd (c.are_bad.ensures.good c.if-are_bad.false bad)
+returns-clause-untouched g c = λ bad. let e = c.in_ok-key.ensures.bad_dates.1 bad in cc
 
 pub returns-clause-id : goal.returns-clause-id
 returns-clause-id g c =

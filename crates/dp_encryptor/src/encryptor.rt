@@ -23,7 +23,7 @@ pub enum BodyRefused {
     #[error("the body was altered, or was sealed otherwise")]
     Tampered,
     /// No memory was found for the text.
-    #[error("out of memory")]
+    #[error("no memory")]
     Memory,
 }
 

@@ -158,7 +158,7 @@ fn phrases(rt: HostRuntime) -> Result<(), Fail> {
             BodyRefused::Tampered,
             "the body was altered, or was sealed otherwise",
         ),
-        (BodyRefused::Memory, "out of memory"),
+        (BodyRefused::Memory, "no memory"),
     ];
     for (refused, phrase) in table {
         assert_eq!(rt; format!(in rt.alloc(); "{refused}")?.as_str(), phrase);

@@ -103,6 +103,7 @@ impl<F: Kin + Drop> Turn<F> {
         }
         Ok(shared.exchange(&mut seat.place, FLIGHT, None).unwrap())
     }
+
     /// Gives the turn back, with its flight.
     pub fn give(&self, seat: &mut TurnSeat<F>, flight: F)
         requires seat { IsSeatOf F.mark self.now seat.old }

@@ -18,7 +18,7 @@ pub enum GcmRefused {
     #[error("the tag differs")]
     BadTag,
     /// No memory was found for the text.
-    #[error("out of memory")]
+    #[error("no memory")]
     Memory,
 }
 

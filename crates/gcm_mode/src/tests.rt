@@ -206,7 +206,7 @@ fn refusals(rt: HostRuntime) {
 fn phrases(rt: HostRuntime) -> Result<(), Fail> {
     let table = [
         (GcmRefused::BadTag, "the tag differs"),
-        (GcmRefused::Memory, "out of memory"),
+        (GcmRefused::Memory, "no memory"),
     ];
     for (refused, phrase) in table {
         assert_eq!(rt; format!(in rt.alloc(); "{refused}")?.as_str(), phrase);

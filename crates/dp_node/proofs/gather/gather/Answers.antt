@@ -1,4 +1,4 @@
-use Rattle.std.proofs.Common.{◌+◌, ◌≡◌, ℕ, List, [], ◌∷◌, length, refl, true, false, sym, ap, ◌∙◌, Option, Ok, Err}
+use Rattle.std.proofs.Common.{◌+◌, ◌≡◌, ℕ, List, length, refl, true, false, sym, ap, ◌∙◌, Option, Ok, Err}
 use Rattle.std.proofs.lemmas.Result.{err_from_is_err_and}
 use Rattle.key_elements.specs.declared.element.Element.{Element}
 use Rattle.key_ring.specs.Ring.{RingOf, ring_of, preferred_key}

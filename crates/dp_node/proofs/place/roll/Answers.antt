@@ -1,4 +1,4 @@
-use Rattle.std.proofs.Common.{false, ℕ, List, [], ◌∷◌, ◌++◌, refl, ap, ◌∙◌, Ok, Err}
+use Rattle.std.proofs.Common.{false, ℕ, List, [], ◌∷◌, ◌++◌, ap, ◌∙◌, Ok, Err}
 use Rattle.std.proofs.lemmas.Result.{err_from_is_err_and}
 use Rattle.dp_base.specs.Codes.{code_of}
 use Rattle.key_elements.specs.declared.element.Element.{Element}
@@ -6,7 +6,7 @@ use Rattle.repo_keeper.specs.Made.{key_of_draw}
 use Rattle.dp_node.specs.Gather.{refusal}
 use Rattle.dp_node.specs.Places.{asked}
 use Rattle.dp_node.proofs.Books.{chain, as_kind}
-use Rattle.dp_node.proofs.Placings.{roll_placed, roll_undrawn, key_not_dates, place_not_dates}
+use Rattle.dp_node.proofs.Placings.{roll_placed, roll_undrawn, place_not_dates}
 use Rattle.dp_node.proofs.place.roll.Goals as goal
 
 pub returns-in_err-key-clause-path : goal.returns-in_err-key-clause-path

@@ -133,10 +133,10 @@ pub fn revoke<W, H: Host<W>, R: Repo<W>>(
     ensures grows { Extends (H.state host.new).own (H.state host.old).own }
     ensures few { length steps.new ≤ 24 }
 {
-    match revocation(id, now, reason) {
-        Ok(element) => place_on(w, alloc, host, repo, &element, steps),
-        Err(_) => Err(NodeError::BadDates),
-    }
+    let Ok(element) = revocation(id, now, reason) else {
+        unreachable!()
+    };
+    place_on(w, alloc, host, repo, &element, steps)
 }
 
 /// Revokes all keys that were made before the date, in ticks, and gives the place of the

@@ -6,8 +6,8 @@ use Rattle.dp_node.specs.Places.{asked}
 use Rattle.dp_node.proofs.Books.{as_kind}
 use Rattle.dp_node.proofs.place.revoke.Goals as goal
 
-pub returns-in-Ok-clause-path : goal.returns-in-Ok-clause-path
-returns-in-Ok-clause-path g c = λ draws.
+pub returns-clause-path : goal.returns-clause-path
+returns-clause-path g c = λ draws.
     let h = g.H.HostView.state c.args.host.now in
     let told = (g.R.Repo.store c.place_on.new.repo).list in
     let d = rw c.requires.room at (c.place_on.ensures.did draws) in

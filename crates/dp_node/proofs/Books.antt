@@ -10,7 +10,7 @@ use Rattle.key_elements.specs.declared.element.Element.{Element}
 use Rattle.key_elements.specs.Lists.{Extends}
 use Rattle.key_ring.specs.Ring.{RingOf}
 use Rattle.ring_world.specs.declared.step.Step.{Step}
-use Rattle.ring_world.specs.Course.{Course, idle, stepped, led, closed, joined, drawn_by, drawn_count, publishes, any_publishes}
+use Rattle.ring_world.specs.Course.{Course, idle, stepped, looking, led, closed, joined, drawn_by, drawn_count, rings_by, ring_count, last_of, publishes, any_publishes}
 use Rattle.ring_world.specs.Flight.{Sight}
 use Rattle.repo_keeper.specs.Store.{Store, Moved, Grows, no_calls, one_call}
 use Rattle.dp_node.specs.HostState.{HostState, latest}
@@ -43,6 +43,14 @@ draws_failed-append (x ∷ s) t = omega (arith, draws_failed-append s t)
 pub drawn_count-append : (s t : List Step) → drawn_count (s ++ t) ≡ drawn_count s + drawn_count t
 drawn_count-append [] t = omega arith
 drawn_count-append (x ∷ s) t = omega (arith, drawn_count-append s t)
+
+ring_count-append : (s t : List Step) → ring_count (s ++ t) ≡ ring_count s + ring_count t
+ring_count-append [] t = omega arith
+ring_count-append (x ∷ s) t = omega (arith, ring_count-append s t)
+
+last_of-append : (r : RingOf) (xs ys : List RingOf) → last_of (last_of r xs) ys ≡ last_of r (xs ++ ys)
+last_of-append r [] ys = refl
+last_of-append r (x ∷ xs) ys = last_of-append x xs ys
 
 or_assoc : (a b c : Bool) → (a || (b || c)) ≡ ((a || b) || c)
 or_assoc true b c = refl
@@ -99,7 +107,7 @@ IsFrontOf-split a b p = sym (take-append-drop (length a) b) ∙ ap (λ r. r ++ d
 pub IsFrontOf-refl : (a : List Element) → IsFrontOf a a
 IsFrontOf-refl a = take-length a
 
-Grows-trans : (a b c : Option (List Element)) → Grows a b → Grows b c → Grows a c
+pub Grows-trans : (a b c : Option (List Element)) → Grows a b → Grows b c → Grows a c
 Grows-trans None None None p q = tt
 Grows-trans None None (Some c) p q = elim q [ ]
 Grows-trans None (Some b) c p q = elim p [ ]
@@ -107,7 +115,7 @@ Grows-trans (Some a) None c p q = elim p [ ]
 Grows-trans (Some a) (Some b) None p q = elim q [ ]
 Grows-trans (Some a) (Some b) (Some c) p q = IsFrontOf-trans a b c p q
 
-Grows-refl : (a : Option (List Element)) → Grows a a
+pub Grows-refl : (a : Option (List Element)) → Grows a a
 Grows-refl None = tt
 Grows-refl (Some a) = IsFrontOf-refl a
 
@@ -147,6 +155,9 @@ module _ (d e : Course) (a b c : Books) where
     steps = q.steps ∙ ap (λ r. r ++ e.steps) p.steps ∙ append_assoc a.steps d.steps e.steps;
     acts = acts_joined (length a.host.looked.list) _ a.host.acts b.host.acts c.host.acts d.steps e.steps p.front p.acts q.acts;
     front = cc (front_of-append (length a.host.looked.list) d.steps e.steps);
+    looked = q.looked ∙ ap (λ r. last_of r e.rings) p.looked ∙ last_of-append a.host.looked d.rings e.rings;
+    rings = omega (arith, length-append d.rings e.rings, ring_count-append d.steps e.steps, p.rings, q.rings);
+    line = IsFrontOf-trans a.host.looked.list b.host.looked.list c.host.looked.list p.line q.line;
     floor = IsFrontOf-trans a.host.floor b.host.floor c.host.floor p.floor q.floor;
     facts = q.facts ∙ p.facts;
     single = shown_joined d e a.host.single b.host.single c.host.single p.single q.single;
@@ -157,6 +168,7 @@ module _ (d e : Course) (a b c : Books) where
       shorts = more_then (tally d.steps).shorts (tally e.steps).shorts a.store.shorts b.store.shorts c.store.shorts _ p.store.shorts q.store.shorts (tally_shorts-append d.steps e.steps);
       fulls = more_then (tally d.steps).fulls (tally e.steps).fulls a.store.fulls b.store.fulls c.store.fulls _ p.store.fulls q.store.fulls (tally_fulls-append d.steps e.steps);
       mine = cc (tally_places-append d.steps e.steps, append_assoc a.store.mine (tally d.steps).places (tally e.steps).places);
+      mark = q.store.mark ∙ p.store.mark;
     };
     draws = rw draws_failed-append (Draws-both (draws_failed d.steps) (draws_failed e.steps) d.drawn e.drawn a.draws b.draws c.draws p.draws q.draws);
     drawn = omega (arith, length-append d.drawn e.drawn, drawn_count-append d.steps e.steps, p.drawn, q.drawn);
@@ -172,28 +184,29 @@ chain {P} {Q} {R} {a} {b} {c} d e f = record {
 }
 
 -- by its parts
-pub Course-eq : (d e : Course) → d.steps ≡ e.steps → d.drawn ≡ e.drawn → d.published ≡ e.published → d.unnoted ≡ e.unnoted → d ≡ e
-Course-eq d e p q r u =
+pub Course-eq : (d e : Course) → d.steps ≡ e.steps → d.drawn ≡ e.drawn → d.rings ≡ e.rings → d.published ≡ e.published → d.unnoted ≡ e.unnoted → d ≡ e
+Course-eq d e p q rs r u =
     ap (λ (s : List Step). record d { steps = s }) p
-    ∙ ap (λ (x : List ℕ). record { steps = e.steps; drawn = x; published = d.published; unnoted = d.unnoted }) q
-    ∙ ap (λ (x : Option RingOf). record { steps = e.steps; drawn = e.drawn; published = x; unnoted = d.unnoted }) r
-    ∙ ap (λ (x : ℕ). record { steps = e.steps; drawn = e.drawn; published = e.published; unnoted = x }) u
+    ∙ ap (λ (x : List ℕ). record { steps = e.steps; drawn = x; rings = d.rings; published = d.published; unnoted = d.unnoted }) q
+    ∙ ap (λ (x : List RingOf). record { steps = e.steps; drawn = e.drawn; rings = x; published = d.published; unnoted = d.unnoted }) rs
+    ∙ ap (λ (x : Option RingOf). record { steps = e.steps; drawn = e.drawn; rings = e.rings; published = x; unnoted = d.unnoted }) r
+    ∙ ap (λ (x : ℕ). record { steps = e.steps; drawn = e.drawn; rings = e.rings; published = e.published; unnoted = x }) u
 
 option_or-none : (p : Option RingOf) → option_or p None ≡ p
 option_or-none None = refl
 option_or-none (Some r) = refl
 
-pub joined-led : (s : List Step) (d : Course) → joined (stepped s) d ≡ led s d
-joined-led s d = Course-eq (joined (stepped s) d) (led s d) refl refl (option_or-none d.published) (zero-add d.unnoted)
+pub joined-led : (s : List Step) (rs : List RingOf) (d : Course) → joined (looking s rs) d ≡ led s rs d
+joined-led s rs d = Course-eq (joined (looking s rs) d) (led s rs d) refl refl refl (option_or-none d.published) (zero-add d.unnoted)
 
 pub joined-closed : (d : Course) (s : List Step) → joined d (stepped s) ≡ closed d s
-joined-closed d s = Course-eq (joined d (stepped s)) (closed d s) refl (append-nil d.drawn) refl (add-zero d.unnoted)
+joined-closed d s = Course-eq (joined d (stepped s)) (closed d s) refl (append-nil d.drawn) (append-nil d.rings) refl (add-zero d.unnoted)
 
 -- after steps that are known, and before them
-pub after : {Q R : Course → Type 0} {a b c : Books} (s : List Step) → Recorded (stepped s) a b → Does Q b c → ((d : Course) → Q d → R (led s d)) → Does R a c
-after {Q} {R} {a} {b} {c} s p e f = record {
-  course = led s e.course;
-  recorded = subst (λ x. Recorded x a c) (joined-led s e.course) (recorded-joined (stepped s) e.course a b c p e.recorded);
+pub after : {Q R : Course → Type 0} {a b c : Books} (s : List Step) (rs : List RingOf) → Recorded (looking s rs) a b → Does Q b c → ((d : Course) → Q d → R (led s rs d)) → Does R a c
+after {Q} {R} {a} {b} {c} s rs p e f = record {
+  course = led s rs e.course;
+  recorded = subst (λ x. Recorded x a c) (joined-led s rs e.course) (recorded-joined (looking s rs) e.course a b c p e.recorded);
   is = f e.course e.is;
 }
 
@@ -213,7 +226,7 @@ pub as_kind : {P Q : Course → Type 0} {a b : Books} → Does P a b → ((d : C
 as_kind d f = record { course = d.course; recorded = d.recorded; is = f d.course d.is }
 
 pub Moved-refl : (s : Store) → Moved no_calls s s
-Moved-refl s = record { list = Grows-refl s.list; calls = refl; faults = refl; shorts = refl; fulls = refl; mine = sym (append-nil s.mine) }
+Moved-refl s = record { list = Grows-refl s.list; calls = refl; faults = refl; shorts = refl; fulls = refl; mine = sym (append-nil s.mine); mark = refl }
 
 -- the tally of one step
 tally-one : (x : Step) → with_unnoted 0 (tally (x ∷ [])) ≡ tally_of x
@@ -233,11 +246,14 @@ outside_single x bytes r None = refl
 outside_single x bytes r (Some one) = ap (λ (n : ℕ). Some (record { want = n; ring = one.ring })) (sym (r one.want))
 
 module _ (x : Step) (bytes : List ℕ) (steps steps' : List Step) (h : HostState) (st st' : Store) (w w' : DrawState) where
-  pub outside : ((n : ℕ) → acts_of n x ≡ []) → ((n : ℕ) → front_after n x ≡ n) → ((n : ℕ) → want_by n x ≡ n) → publishes x ≡ false → length bytes ≡ drawn_by x → steps' ≡ steps ++ x ∷ [] → Moved (tally_of x) st st' → Draws (draw_failed x) bytes w w' → Recorded (record idle { steps = x ∷ []; drawn = bytes }) (books steps h st w) (books steps' h st' w')
-  outside a l r b c p m f = record {
+  pub outside : ((n : ℕ) → acts_of n x ≡ []) → ((n : ℕ) → front_after n x ≡ n) → ((n : ℕ) → want_by n x ≡ n) → rings_by x ≡ 0 → publishes x ≡ false → length bytes ≡ drawn_by x → steps' ≡ steps ++ x ∷ [] → Moved (tally_of x) st st' → Draws (draw_failed x) bytes w w' → Recorded (record idle { steps = x ∷ []; drawn = bytes }) (books steps h st w) (books steps' h st' w')
+  outside a l r n b c p m f = record {
     steps = p;
     acts = ap latest (sym (append-nil h.acts) ∙ ap (λ z. h.acts ++ z) (sym (append-nil (acts_of (length h.looked.list) x) ∙ a _)));
     front = sym (l _);
+    looked = refl;
+    rings = sym (ap (λ z. z + 0) n);
+    line = IsFrontOf-refl h.looked.list;
     floor = IsFrontOf-refl h.floor;
     facts = refl;
     single = outside_single x bytes r h.single;
@@ -248,9 +264,9 @@ module _ (x : Step) (bytes : List ℕ) (steps steps' : List Step) (h : HostState
   }
 
 -- a step of the repository
-pub stored : (x : Step) (steps steps' : List Step) (h : HostState) (st st' : Store) (w : DrawState) → ((n : ℕ) → acts_of n x ≡ []) → ((n : ℕ) → front_after n x ≡ n) → ((n : ℕ) → want_by n x ≡ n) → publishes x ≡ false → draw_failed x ≡ 0 → 0 ≡ drawn_by x → steps' ≡ steps ++ x ∷ [] → Moved (tally_of x) st st' → Recorded (stepped (x ∷ [])) (books steps h st w) (books steps' h st' w)
-stored x steps steps' h st st' w a l r b d c p m =
-    outside x [] steps steps' h st st' w w a l r b c p m (rw d (Draws-none w))
+pub stored : (x : Step) (steps steps' : List Step) (h : HostState) (st st' : Store) (w : DrawState) → ((n : ℕ) → acts_of n x ≡ []) → ((n : ℕ) → front_after n x ≡ n) → ((n : ℕ) → want_by n x ≡ n) → rings_by x ≡ 0 → publishes x ≡ false → draw_failed x ≡ 0 → 0 ≡ drawn_by x → steps' ≡ steps ++ x ∷ [] → Moved (tally_of x) st st' → Recorded (stepped (x ∷ [])) (books steps h st w) (books steps' h st' w)
+stored x steps steps' h st st' w a l r n b d c p m =
+    outside x [] steps steps' h st st' w w a l r n b c p m (rw d (Draws-none w))
 
 -- a call of the repository that has no step
 pub unnoted : (steps : List Step) (h : HostState) (st st' : Store) (w : DrawState) → Moved one_call st st' → Recorded (record idle { unnoted = 1 }) (books steps h st w) (books steps h st' w)
@@ -258,6 +274,9 @@ unnoted steps h st st' w m = record {
   steps = sym (append-nil steps);
   acts = ap latest (sym (append-nil h.acts));
   front = refl;
+  looked = refl;
+  rings = refl;
+  line = IsFrontOf-refl h.looked.list;
   floor = IsFrontOf-refl h.floor;
   facts = refl;
   single = shown-idle h.single;
@@ -273,6 +292,9 @@ nothing steps h st w = record {
   steps = sym (append-nil steps);
   acts = ap latest (sym (append-nil h.acts));
   front = refl;
+  looked = refl;
+  rings = refl;
+  line = IsFrontOf-refl h.looked.list;
   floor = IsFrontOf-refl h.floor;
   facts = refl;
   single = shown-idle h.single;
@@ -283,12 +305,15 @@ nothing steps h st w = record {
 }
 
 -- an act of the host, which may publish a ring
-module _ (x : Step) (p : Option RingOf) (steps steps' : List Step) (h h' : HostState) (st : Store) (w : DrawState) where
-  pub acted_by : tally_of x ≡ no_calls → draw_failed x ≡ 0 → drawn_by x ≡ 0 → is_some p ≡ publishes x → steps' ≡ steps ++ x ∷ [] → latest h'.acts ≡ latest (h.acts ++ acts_of (length h.looked.list) x) → length h'.looked.list ≡ front_after (length h.looked.list) x → IsFrontOf h.floor h'.floor → h'.facts ≡ h.facts → h'.single ≡ option_map (shown_by (record idle { steps = x ∷ []; published = p })) h.single → Recorded (record idle { steps = x ∷ []; published = p }) (books steps h st w) (books steps' h' st w)
-  acted_by t d n b s a l e f o = record {
+module _ (x : Step) (rs : List RingOf) (p : Option RingOf) (steps steps' : List Step) (h h' : HostState) (st : Store) (w : DrawState) where
+  pub acted_by : tally_of x ≡ no_calls → draw_failed x ≡ 0 → drawn_by x ≡ 0 → is_some p ≡ publishes x → steps' ≡ steps ++ x ∷ [] → latest h'.acts ≡ latest (h.acts ++ acts_of (length h.looked.list) x) → length h'.looked.list ≡ front_after (length h.looked.list) x → h'.looked ≡ last_of h.looked rs → length rs ≡ rings_by x → IsFrontOf h.looked.list h'.looked.list → IsFrontOf h.floor h'.floor → h'.facts ≡ h.facts → h'.single ≡ option_map (shown_by (record idle { steps = x ∷ []; rings = rs; published = p })) h.single → Recorded (record idle { steps = x ∷ []; rings = rs; published = p }) (books steps h st w) (books steps' h' st w)
+  acted_by t d n b s a l k c i e f o = record {
     steps = s;
     acts = a ∙ ap (λ r. latest (h.acts ++ r)) (sym (append-nil (acts_of (length h.looked.list) x)));
     front = l;
+    looked = k;
+    rings = c ∙ sym (add-zero (rings_by x));
+    line = i;
     floor = e;
     facts = f;
     single = o;

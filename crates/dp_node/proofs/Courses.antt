@@ -12,7 +12,7 @@ use Rattle.ring_world.specs.declared.step.Step.TheVariants.{Want, Take, Busy, Gi
 use Rattle.ring_world.specs.Course.{Course, stepped, led, closed, IsFront, IsCut, holds}
 use Rattle.ring_world.specs.Lists.{longer}
 use Rattle.ring_world.specs.Flight.{Refusal, StoreFault, Shorter, Forked, Memory, Sight, sight_steps, Plain, Keyed, Filled, Shrunk, NoRead, ShortRead, NoDraw, NoKeyDraw, NoAppend, ShortAppend, Flown, Broken, whole, cut, FlightGives}
-use Rattle.ring_world.specs.Path.{Call, target, is_enough_for, is_enough, base, Sees, Turn, Rests, Parts, Flies, Path, AtOnce, Stale, Alone, Turned, AloneFailed, AloneShort, Apart, turn_course, path_course, TurnGives, turned, turn_stopped, PathGives, went, stopped}
+use Rattle.ring_world.specs.Path.{Call, target, is_enough_for, is_enough, base, Sees, Wants, Turn, Blind, Rests, Parts, Flies, Path, Unseen, AtOnce, Stale, Alone, Turned, AloneFailed, AloneShort, Apart, sight_course, after_sight, turn_course, path_course, TurnGives, turned, turn_stopped, PathGives, went, stopped}
 use Rattle.dp_node.specs.Gather.{Reads}
 use Rattle.dp_node.specs.Calls.{is_private, private_step}
 use Rattle.dp_node.proofs.Books.{IsFrontOf-refl}
@@ -21,6 +21,7 @@ use Rattle.dp_node.proofs.Fronts.{front_unnoted, front_whole, front_led, front_c
 
 -- the holder of the turn gives it back only at the end
 pub turn_leaves : (c : Call) (x : Turn) → all_leave (turn_course c x).steps ≡ true
+turn_leaves c (Blind n) = refl
 turn_leaves c (Rests t) = refl
 turn_leaves c (Parts t at) = refl
 turn_leaves c (Flies t (Flown w (Plain es))) = refl
@@ -36,6 +37,7 @@ turn_leaves c (Flies t (Broken (ShortAppend es w k got))) = refl
 
 -- behind a path the turn is free
 pub path_free : (c : Call) (p : Path) → holds false (path_course c p).steps ≡ false
+path_free c (Unseen n) = refl
 path_free c (AtOnce s) = refl
 path_free c (Stale s h) = refl
 path_free c (Alone s h es) = refl
@@ -45,11 +47,13 @@ path_free c (AloneShort s h had got) = refl
 path_free c (Apart s at) = refl
 
 pub turn_noted : (c : Call) (x : Turn) → (turn_course c x).unnoted ≡ 0
+turn_noted c (Blind n) = refl
 turn_noted c (Rests t) = refl
 turn_noted c (Parts t at) = refl
 turn_noted c (Flies t x) = gather_noted x
 
 pub path_noted : (c : Call) (p : Path) → (path_course c p).unnoted ≡ 0
+path_noted c (Unseen n) = refl
 path_noted c (AtOnce s) = refl
 path_noted c (Stale s h) = refl
 path_noted c (Alone s h es) = refl
@@ -62,98 +66,67 @@ path_noted c (Apart s at) = refl
 pub free_cut : (d w : Course) → holds false d.steps ≡ false → IsFront d w → IsCut d w
 free_cut d w h f = record { front = d; is = f; given = sym (rw h refl) }
 
--- a look that is due
-abbrev pub due : ℕ → Sight
-due n = record { want = n; ring = record { list = []; made_at = 0; until = 0; excused = 0 } }
-
-not_enough : (c : Call) (n : ℕ) → is_enough c (due n) ≡ false
-unfolding due_of
-not_enough c n = rw (le-leb 0 c.terms.now (omega arith)) refl
-
--- what a pass may see whose want number was asked
-pub some_sight : (n : ℕ) (o : Option Sight) → IfSome o (λ one. n ≡ one.want) → (s : Sight) × IfSome o (λ one. s ≡ one) × (n ≡ s.want)
-some_sight n None h = (due n, tt, refl)
-some_sight n (Some one) h = (one, refl, h)
-
-pub want_front : (s : Sight) (n : ℕ) (w : Course) (rest : List Step) → n ≡ s.want → w.steps ≡ Want s.want ∷ rest → w.drawn ≡ [] → IsFront (stepped (Want n ∷ [])) w
-want_front s n w rest e p q = record {
-  steps = (rest, p ∙ ap (λ m. Want m ∷ rest) (sym e));
-  drawn = ([], q);
-  published = inl refl;
-  unnoted = omega arith;
-}
-
 module _ (c : Call) where
-  turn_want : (n : ℕ) (s : Sight) (b : Bool) → n ≡ s.want → Sees c s → is_enough c s ≡ b → TurnGives c (Err Memory) (stepped (Want n ∷ []))
-  turn_want n s true e sees h = turn_stopped (Rests s) (sees, h) refl (want_front s n (turn_course c (Rests s)) _ e refl refl)
-  turn_want n s false e sees h = turn_stopped (Flies s (Broken NoRead)) (sees, h, tt) refl (want_front s n (turn_course c (Flies s (Broken NoRead))) _ e refl refl)
-
   -- no memory was found for the look
-  pub turn_none : (n : ℕ) → IfSome c.single (λ one. n ≡ one.want) → TurnGives c (Err Memory) (stepped (Want n ∷ []))
-  turn_none n h = let s = some_sight n c.single h in turn_want n s.0 (is_enough c s.0) s.2 s.1 refl
+  pub turn_none : (n : ℕ) → Wants c n → TurnGives c (Err Memory) (stepped (Want n ∷ []))
+  turn_none n h = turned (Blind n) h tt refl refl
 
-  path_want : (n : ℕ) (s : Sight) (b : Bool) → n ≡ s.want → Sees c s → is_enough c s ≡ b → PathGives c (Err Memory) (stepped (Want n ∷ []))
-  path_want n s true e sees h = stopped (AtOnce s) (sees, h) refl (free_cut (stepped (Want n ∷ [])) (path_course c (AtOnce s)) refl (want_front s n (path_course c (AtOnce s)) _ e refl refl))
-  path_want n s false e sees h =
-      let p = Turned s (Flies s (Broken NoRead)) in
-      stopped p (sees, h, (sees, h, tt)) refl (free_cut (stepped (Want n ∷ [])) (path_course c p) refl (want_front s n (path_course c p) _ e refl refl))
-
-  pub path_none : (n : ℕ) → IfSome c.single (λ one. n ≡ one.want) → PathGives c (Err Memory) (stepped (Want n ∷ []))
-  path_none n h = let s = some_sight n c.single h in path_want n s.0 (is_enough c s.0) s.2 s.1 refl
+  pub path_none : (n : ℕ) → Wants c n → PathGives c (Err Memory) (stepped (Want n ∷ []))
+  path_none n h = went (Unseen n) h tt refl refl
 
 module _ (c : Call) (t : Sight) (sees : Sees c t) where
-  pub turn_flies : (r : Result RingOf Refusal) → Agree c.own t.ring.list → is_enough c t ≡ false → (d : Course) → FlightGives c.terms (base c t) t r d → TurnGives c r (led (sight_steps t) d)
-  turn_flies r line n d (whole x is e q) = turned (Flies t x) (sees, n, is) line e (ap (led (sight_steps t)) q)
-  turn_flies r line n d (cut x is e f) = turn_stopped (Flies t x) (sees, n, is) e (front_led (sight_steps t) d _ f)
+  pub turn_flies : (r : Result RingOf Refusal) → Agree c.own t.ring.list → is_enough c t ≡ false → (d : Course) → FlightGives c.terms (base c t) t r d → TurnGives c r (after_sight t [] d)
+  turn_flies r line n d (whole x is e q) = turned (Flies t x) (sees, n, is) line e (ap (after_sight t []) q)
+  turn_flies r line n d (cut x is e f) = turn_stopped (Flies t x) (sees, n, is) line e (front_led (sight_steps t) (t.ring ∷ []) d _ f)
 
-  pub turn_rests : Agree c.own t.ring.list → is_enough c t ≡ true → TurnGives c (Ok t.ring) (stepped (sight_steps t))
+  pub turn_rests : Agree c.own t.ring.list → is_enough c t ≡ true → TurnGives c (Ok t.ring) (sight_course t [])
   turn_rests line e = turned (Rests t) (sees, e) line refl refl
 
-  pub turn_apart : (at : ℕ) (left right : List Element) → IsFirstDifference c.own t.ring.list at → left ≡ c.own → right ≡ t.ring.list → TurnGives c (Err (Forked at left right)) (stepped (sight_steps t))
+  pub turn_apart : (at : ℕ) (left right : List Element) → IsFirstDifference c.own t.ring.list at → left ≡ c.own → right ≡ t.ring.list → TurnGives c (Err (Forked at left right)) (sight_course t [])
   turn_apart at left right f l r = rw (l, r) (turned (Parts t at) (sees, f) tt refl refl)
 
-  pub turn_apart_lost : (at : ℕ) → IsFirstDifference c.own t.ring.list at → TurnGives c (Err Memory) (stepped (sight_steps t))
-  turn_apart_lost at f = turn_stopped (Parts t at) (sees, f) refl (front_whole (stepped (sight_steps t)) (omega arith))
+  pub turn_apart_lost : (at : ℕ) → IsFirstDifference c.own t.ring.list at → TurnGives c (Err Memory) (sight_course t [])
+  turn_apart_lost at f = turn_stopped (Parts t at) (sees, f) tt refl (front_whole (sight_course t []) (omega arith))
 
-  pub path_apart : (at : ℕ) (left right : List Element) → IsFirstDifference c.own t.ring.list at → left ≡ c.own → right ≡ t.ring.list → PathGives c (Err (Forked at left right)) (stepped (sight_steps t))
+  pub path_apart : (at : ℕ) (left right : List Element) → IsFirstDifference c.own t.ring.list at → left ≡ c.own → right ≡ t.ring.list → PathGives c (Err (Forked at left right)) (sight_course t [])
   path_apart at left right f l r = rw (l, r) (went (Apart t at) (sees, f) tt refl refl)
 
-  pub path_apart_lost : (at : ℕ) → IsFirstDifference c.own t.ring.list at → PathGives c (Err Memory) (stepped (sight_steps t))
-  path_apart_lost at f = stopped (Apart t at) (sees, f) refl (free_cut (stepped (sight_steps t)) _ refl (front_whole (stepped (sight_steps t)) (omega arith)))
+  pub path_apart_lost : (at : ℕ) → IsFirstDifference c.own t.ring.list at → PathGives c (Err Memory) (sight_course t [])
+  path_apart_lost at f = stopped (Apart t at) (sees, f) tt refl (free_cut (sight_course t []) _ refl (front_whole (sight_course t []) (omega arith)))
 
-  pub path_at_once : Agree c.own t.ring.list → is_enough c t ≡ true → PathGives c (Ok t.ring) (stepped (sight_steps t))
+  pub path_at_once : Agree c.own t.ring.list → is_enough c t ≡ true → PathGives c (Ok t.ring) (sight_course t [])
   path_at_once line e = went (AtOnce t) (sees, e) line refl refl
 
 module _ (c : Call) (s : Sight) (sees : Sees c s) (line : Agree c.own s.ring.list) (n : is_enough c s ≡ false) where
-  pub path_turned : (r : Result RingOf Refusal) (d : Course) → TurnGives c r d → PathGives c r (led (sight_steps s ++ Take ∷ []) (closed d (Give ∷ [])))
-  path_turned r d (turned x is l e q) = went (Turned s x) (sees, n, is) (line, l) e (ap (λ (y : Course). led (sight_steps s ++ Take ∷ []) (closed y (Give ∷ []))) q)
-  path_turned r d (turn_stopped x is e f) =
+  pub path_turned : (r : Result RingOf Refusal) (d : Course) → TurnGives c r d → PathGives c r (after_sight s (Take ∷ []) (closed d (Give ∷ [])))
+  path_turned r d (turned x is l e q) = went (Turned s x) (sees, n, is) (line, l) e (ap (λ (y : Course). after_sight s (Take ∷ []) (closed y (Give ∷ []))) q)
+  path_turned r d (turn_stopped x is l e f) =
       let held : holds true d.steps ≡ true = held_behind d.steps (all_leave-front d.steps f.steps.0 (sym (ap all_leave f.steps.1) ∙ turn_leaves c x)) in
-      stopped (Turned s x) (sees, n, is) e (record {
-        front = led (sight_steps s ++ Take ∷ []) d;
-        is = front_led (sight_steps s ++ Take ∷ []) d (closed (turn_course c x) (Give ∷ [])) (front_closed (Give ∷ []) d (turn_course c x) f);
+      stopped (Turned s x) (sees, n, is) (line, l) e (record {
+        front = after_sight s (Take ∷ []) d;
+        is = front_led (sight_steps s ++ Take ∷ []) (s.ring ∷ []) d (closed (turn_course c x) (Give ∷ [])) (front_closed (Give ∷ []) d (turn_course c x) f);
         given = sym (rw held refl);
       })
 
   module _ (busy : c.single ≡ None) (h : ℕ) where
-    pub path_stale : target c ≤ length s.ring.list → PathGives c (Ok s.ring) (stepped (sight_steps s ++ Busy h ∷ []))
+    pub path_stale : target c ≤ length s.ring.list → PathGives c (Ok s.ring) (sight_course s (Busy h ∷ []))
     path_stale l = went (Stale s h) (sees, busy, n, l) line refl refl
 
-    pub path_alone : (es : List Element) → length s.ring.list < target c → (d : Course) → Reads true c.terms.told (base c s) (Ok es) d → PathGives c (Ok (ring_of es c.terms.now 0)) (led (sight_steps s ++ Busy h ∷ []) d)
-    path_alone es l d p = went (Alone s h es) (sees, busy, l, p.0) line refl (ap (led (sight_steps s ++ Busy h ∷ [])) p.1)
+    pub path_alone : (es : List Element) → length s.ring.list < target c → (d : Course) → Reads true c.terms.told (base c s) (Ok es) d → PathGives c (Ok (ring_of es c.terms.now 0)) (after_sight s (Busy h ∷ []) d)
+    path_alone es l d p = went (Alone s h es) (sees, busy, l, p.0) line refl (ap (after_sight s (Busy h ∷ [])) p.1)
 
     -- no memory was found for the ring
-    pub path_alone_lost : (es : List Element) → length s.ring.list < target c → (d : Course) → Reads true c.terms.told (base c s) (Ok es) d → PathGives c (Err Memory) (led (sight_steps s ++ Busy h ∷ []) d)
+    pub path_alone_lost : (es : List Element) → length s.ring.list < target c → (d : Course) → Reads true c.terms.told (base c s) (Ok es) d → PathGives c (Err Memory) (after_sight s (Busy h ∷ []) d)
     path_alone_lost es l d p =
-        let w = stepped (sight_steps s ++ Busy h ∷ PrivateRead (length es) ∷ []) in
-        rw p.1 (stopped (Alone s h es) (sees, busy, l, p.0) refl (free_cut w w refl (front_whole w (omega arith))))
+        let w = sight_course s (Busy h ∷ PrivateRead (length es) ∷ []) in
+        rw p.1 (stopped (Alone s h es) (sees, busy, l, p.0) line refl (free_cut w w refl (front_whole w (omega arith))))
 
-    pub path_alone_refused : (why : Refusal) → length s.ring.list < target c → (d : Course) → Reads true c.terms.told (base c s) (Err why) d → PathGives c (Err why) (led (sight_steps s ++ Busy h ∷ []) d)
-    path_alone_refused StoreFault l d p = went (AloneFailed s h) (sees, busy, l) line refl (ap (led (sight_steps s ++ Busy h ∷ [])) p)
-    path_alone_refused (Shorter had got) l d p = went (AloneShort s h had got) (sees, busy, l, p.0, p.1) line refl (ap (led (sight_steps s ++ Busy h ∷ [])) p.2)
+    pub path_alone_refused : (why : Refusal) → length s.ring.list < target c → (d : Course) → Reads true c.terms.told (base c s) (Err why) d → PathGives c (Err why) (after_sight s (Busy h ∷ []) d)
+    path_alone_refused StoreFault l d p = went (AloneFailed s h) (sees, busy, l) line refl (ap (after_sight s (Busy h ∷ [])) p)
+    path_alone_refused (Shorter had got) l d p = went (AloneShort s h had got) (sees, busy, l, p.0, p.1) line refl (ap (after_sight s (Busy h ∷ [])) p.2)
     path_alone_refused Memory l d (inl p) =
-        let w = record (stepped (sight_steps s ++ Busy h ∷ [])) { unnoted = 1 } in
-        rw p (stopped (AloneFailed s h) (sees, busy, l) refl (free_cut w (path_course c (AloneFailed s h)) refl (front_unnoted w (sight_steps s ++ Busy h ∷ []) (ReadFailed ∷ []) [] None 0 refl)))
+        let w = record (sight_course s (Busy h ∷ [])) { unnoted = 1 } in
+        rw p (stopped (AloneFailed s h) (sees, busy, l) line refl (free_cut w (path_course c (AloneFailed s h)) refl (front_unnoted w (sight_steps s ++ Busy h ∷ []) (ReadFailed ∷ []) [] (s.ring ∷ []) [] None 0 refl)))
     path_alone_refused Memory l d (inr p) = path_alone_lost p.0 l d (p.1, p.2)
     path_alone_refused _ l d p = elim p [ ]
 

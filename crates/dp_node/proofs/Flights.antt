@@ -7,10 +7,10 @@ use Rattle.repo_keeper.specs.Store.{Grows}
 use Rattle.ring_world.specs.declared.step.Step.{Step}
 use Rattle.ring_world.specs.declared.step.Step.TheVariants.{Read, ReadFailed, WentBack, Drawn, DrawFailed, Appended, AppendFull, AppendFailed}
 use Rattle.ring_world.specs.Course.{Course, stepped, joined, IsFront}
-use Rattle.ring_world.specs.Lists.{IsReadFrom, IsReadUpTo, IsGrown}
-use Rattle.ring_world.specs.Flight.{Refusal, StoreFault, DrawFault, Shorter, Full, Memory, Sight, Terms, jitter_of, makes_key, new_key, Plain, Keyed, Filled, Shrunk, NoRead, ShortRead, NoDraw, NoKeyDraw, NoAppend, ShortAppend, Flight, Flown, Broken, gather_course, gather_end, last_step, published_after, whole, cut, Gathers, FlightGives}
+use Rattle.ring_world.specs.Lists.{IsReadFrom, IsReadUpTo, Reaches, IsGrown}
+use Rattle.ring_world.specs.Flight.{Refusal, StoreFault, DrawFault, Shorter, Full, Memory, Sight, Terms, jitter_of, makes_key, new_key, Plain, Keyed, Filled, Shrunk, NoRead, ShortRead, NoDraw, NoKeyDraw, NoAppend, ShortAppend, Flight, Flown, Broken, IsRead, gather_course, gather_end, last_ring, last_step, published_after, whole, cut, Gathers, FlightGives}
 use Rattle.dp_node.specs.Gather.{goes_on, Reads, DrawGives, KeyGives, Appends}
-use Rattle.dp_node.proofs.Books.{IsFrontOf-trans, IsFrontOf-le, IsFrontOf-split}
+use Rattle.dp_node.proofs.Books.{IsFrontOf-trans, IsFrontOf-le, IsFrontOf-split, Grows-refl}
 use Rattle.dp_node.proofs.Fronts.{bare, bare-step, front, front_unnoted}
 
 -- what was read, and then read on over a list that grew
@@ -30,14 +30,26 @@ read_twice (Some list) (Some list') base es fs p g q =
     (IsFrontOf-trans base es fs p.0 q.0, (omega (arith, IsFrontOf-le list list' g, p.1.0), left ∙ ap (λ r. r ++ x) p.1.1 ∙ ap (λ r. drop n list ++ r) rest ∙ sym right))
 
 -- what was read, in a list that grew
-pub read_before : (told told' : Option (List Element)) (base es : List Element) → IsReadFrom told base es → Grows told told' → IsReadUpTo told' base es
+read_before : (told told' : Option (List Element)) (base es : List Element) → IsReadFrom told base es → Grows told told' → IsReadUpTo told' base es
 read_before None None base es p g = (p.0, tt)
 read_before None (Some list) base es p g = elim g [ ]
 read_before (Some list) None base es p g = elim g [ ]
 read_before (Some list) (Some list') base es p g =
     let n = length base in
     let same : length es ≡ length list = omega (arith, length-drop n es, length-drop n list, ap length p.1.1, p.1.0, IsFrontOf-le base es p.0) in
-    (p.0, p.1.1 ∙ ap (drop n) (sym g) ∙ ap (λ m. drop n (take m list')) (sym same))
+    (p.0, (omega (arith, same, IsFrontOf-le list list' g), p.1.1 ∙ ap (drop n) (sym g) ∙ ap (λ m. drop n (take m list')) (sym same)))
+
+-- it has all that was told before
+read_reaches : (before told : Option (List Element)) (base es : List Element) → Grows before told → IsReadFrom told base es → Reaches es before
+read_reaches None told base es g p = tt
+read_reaches (Some list) None base es g p = elim g [ ]
+read_reaches (Some list) (Some list') base es g p =
+    let n = length base in
+    omega (arith, length-drop n es, length-drop n list', ap length p.1.1, p.1.0, IsFrontOf-le base es p.0, IsFrontOf-le list list' g)
+
+-- what was read during a call
+was_read : (t : Terms) (told : Option (List Element)) (base es : List Element) → Grows t.before told → Grows told t.told → IsReadFrom told base es → IsRead t base es
+was_read t told base es b g p = (read_before told t.told base es p g, read_reaches t.before told base es b p)
 
 -- the list was read, and so many bytes were drawn
 abbrev pub Began : Option (List Element) → List Element → List Element → List Step → List ℕ → Course → Type 0
@@ -61,44 +73,51 @@ began_key told base es w make key d e p q = (q.0, q.1, q.2, (p.0, rw (p.1, q.3) 
 pub appends_at : (told : Option (List Element)) (es es' : List Element) (e e' : Element) (r : Result (List Element) Refusal) (d : Course) → es' ≡ es → e' ≡ e → Appends told es' e' r d → Appends told es e r d
 appends_at told es es' e e' r d p q a = subst (λ (x : List Element). Appends told x e r d) p (subst (λ (x : Element). Appends told es' x r d) q a)
 
-module _ (t : Terms) (base : List Element) where
+module _ (t : Terms) (base : List Element) (since : Grows t.before t.told) where
+  -- nothing was called since the list was read
+  read_last : (es : List Element) → IsReadFrom t.told base es → IsRead t base es
+  read_last es p = was_read t t.told base es since (Grows-refl t.told) p
+
   pub reads_gathers : (why : Refusal) (d : Course) → Reads false t.told base (Err why) d → Gathers t base (Err why) d
   reads_gathers StoreFault d p = whole (Broken NoRead) tt refl p
   reads_gathers (Shorter had got) d p = whole (Broken (ShortRead had got)) (p.0, p.1) refl p.2
-  reads_gathers Memory d (inl p) = cut (Broken NoRead) tt refl (front_unnoted d [] (ReadFailed ∷ []) [] None 0 p)
-  reads_gathers Memory d (inr p) = cut (Broken (NoDraw p.0)) p.1.0 refl (front d (Read (length p.0) ∷ []) (DrawFailed ∷ []) [] None 0 p.2)
+  reads_gathers Memory d (inl p) = cut (Broken NoRead) tt refl (front_unnoted d [] (ReadFailed ∷ []) [] [] [] None 0 p)
+  reads_gathers Memory d (inr p) = cut (Broken (NoDraw p.0)) (read_last p.0 p.1) refl (front d (Read (length p.0) ∷ []) (DrawFailed ∷ []) [] [] None 0 p.2)
   reads_gathers _ d p = elim p [ ]
 
-  pub draw_gathers : (told : Option (List Element)) (es : List Element) (why : Refusal) (d e : Course) → Began told base es [] [] d → DrawGives 8 (Err why) e → Gathers t base (Err why) (joined d e)
-  draw_gathers told es DrawFault d e p q = whole (Broken (NoDraw es)) p.0.0 refl (rw (p.1, q) refl)
-  draw_gathers told es _ d e p q = elim q [ ]
+  pub draw_gathers : (es : List Element) (why : Refusal) (d e : Course) → Began t.told base es [] [] d → DrawGives 8 (Err why) e → Gathers t base (Err why) (joined d e)
+  draw_gathers es DrawFault d e p q = whole (Broken (NoDraw es)) (read_last es p.0) refl (rw (p.1, q) refl)
+  draw_gathers es _ d e p q = elim q [ ]
 
   pub plain_gathers : (es : List Element) (w : List ℕ) (d : Course) → makes_key t es ≡ false → length w ≡ 8 → Began t.told base es (Drawn 8 ∷ []) w d → Gathers t base (Ok (ring_of es t.now (jitter_of w))) d
   plain_gathers es w d m l p = whole (Flown w (Plain es)) (l, (p.0, m)) refl p.1
 
   -- no memory was found for the ring of the list read
   pub ring_lost : (es : List Element) (w : List ℕ) (d : Course) (makes : Bool) → makes_key t es ≡ makes → length w ≡ 8 → Began t.told base es (Drawn 8 ∷ []) w d → Gathers t base (Err Memory) d
-  ring_lost es w d true m l p = cut (Broken (NoKeyDraw es w)) (p.0.0, m, l) refl (front d (Read (length es) ∷ Drawn 8 ∷ []) (DrawFailed ∷ []) w None 0 p.1)
-  ring_lost es w d false m l p = cut (Flown w (Plain es)) (l, (p.0, m)) refl (front d (Read (length es) ∷ Drawn 8 ∷ []) [] w None 0 p.1)
+  ring_lost es w d true m l p = cut (Broken (NoKeyDraw es w)) (read_last es p.0, m, l) refl (front d (Read (length es) ∷ Drawn 8 ∷ []) (DrawFailed ∷ []) w [] None 0 p.1)
+  ring_lost es w d false m l p = cut (Flown w (Plain es)) (l, (p.0, m)) refl (front d (Read (length es) ∷ Drawn 8 ∷ []) [] w [] None 0 p.1)
 
-  pub key_gathers : (told : Option (List Element)) (make : List ℕ → Element) (es : List Element) (w : List ℕ) (why : Refusal) (d e : Course) → makes_key t es ≡ true → length w ≡ 8 → Began told base es (Drawn 8 ∷ []) w d → KeyGives make (Err why) e → Gathers t base (Err why) (joined d e)
-  key_gathers told make es w DrawFault d e m l p q = whole (Broken (NoKeyDraw es w)) (p.0.0, m, l) refl (rw (p.1, q) (bare-step (Read (length es) ∷ Drawn 8 ∷ []) w (DrawFailed ∷ [])))
-  key_gathers told make es w _ d e m l p q = elim q [ ]
+  pub key_gathers : (make : List ℕ → Element) (es : List Element) (w : List ℕ) (why : Refusal) (d e : Course) → makes_key t es ≡ true → length w ≡ 8 → Began t.told base es (Drawn 8 ∷ []) w d → KeyGives make (Err why) e → Gathers t base (Err why) (joined d e)
+  key_gathers make es w DrawFault d e m l p q = whole (Broken (NoKeyDraw es w)) (read_last es p.0, m, l) refl (rw (p.1, q) (bare-step (Read (length es) ∷ Drawn 8 ∷ []) w (DrawFailed ∷ [])))
+  key_gathers make es w _ d e m l p q = elim q [ ]
 
 -- after the append, over a list that may have grown since the read
-module _ (t : Terms) (told : Option (List Element)) (base es : List Element) (w k : List ℕ) (grows : Grows told t.told) (makes : makes_key t es ≡ true) (eight : length w ≡ 8) (eighty : length k ≡ 80) (d e : Course) (p : Began told base es (Drawn 8 ∷ Drawn 80 ∷ []) (w ++ k) d) where
+module _ (t : Terms) (told : Option (List Element)) (base es : List Element) (w k : List ℕ) (since : Grows t.before told) (grows : Grows told t.told) (makes : makes_key t es ≡ true) (eight : length w ≡ 8) (eighty : length k ≡ 80) (d e : Course) (p : Began told base es (Drawn 8 ∷ Drawn 80 ∷ []) (w ++ k) d) where
   abbrev so_far : List Step
   so_far = Read (length es) ∷ Drawn 8 ∷ Drawn 80 ∷ []
 
+  read : IsRead t base es
+  read = was_read t told base es since grows p.0
+
   pub keyed_gathers : (fs : List Element) → Appends t.told es (new_key t es k) (Ok fs) e → Gathers t base (Ok (ring_of fs t.now (jitter_of w))) (joined d e)
   keyed_gathers fs q =
-      whole (Flown w (Keyed es k fs)) (eight, (p.0.0, makes, eighty, q.1, read_twice told t.told base es fs p.0 grows q.0)) refl
+      whole (Flown w (Keyed es k fs)) (eight, (read, makes, eighty, q.1, read_twice told t.told base es fs p.0 grows q.0)) refl
       (rw (p.1, q.2) (bare-step so_far (w ++ k) (Appended (length fs - 1) ∷ [])))
 
   keyed_cut : (fs : List Element) → IsReadFrom t.told es fs → IsGrown es (new_key t es k) fs → e ≡ stepped (Appended (length fs - 1) ∷ []) → Gathers t base (Err Memory) (joined d e)
   keyed_cut fs r g q =
-      cut (Flown w (Keyed es k fs)) (eight, (p.0.0, makes, eighty, g, read_twice told t.told base es fs p.0 grows r)) refl
-      (front (joined d e) (Read (length es) ∷ Drawn 8 ∷ Drawn 80 ∷ Appended (length fs - 1) ∷ []) [] (w ++ k) None 0 (rw (p.1, q) (bare-step so_far (w ++ k) (Appended (length fs - 1) ∷ []))))
+      cut (Flown w (Keyed es k fs)) (eight, (read, makes, eighty, g, read_twice told t.told base es fs p.0 grows r)) refl
+      (front (joined d e) (Read (length es) ∷ Drawn 8 ∷ Drawn 80 ∷ Appended (length fs - 1) ∷ []) [] (w ++ k) [] None 0 (rw (p.1, q) (bare-step so_far (w ++ k) (Appended (length fs - 1) ∷ []))))
 
   -- no memory was found for the ring of the list with the key
   pub keyed_lost : (fs : List Element) → Appends t.told es (new_key t es k) (Ok fs) e → Gathers t base (Err Memory) (joined d e)
@@ -106,22 +125,22 @@ module _ (t : Terms) (told : Option (List Element)) (base es : List Element) (w 
 
   pub full_gathers : (why : Refusal) → goes_on t.opening why ≡ true → Appends t.told es (new_key t es k) (Err why) e → Gathers t base (Ok (ring_of es t.now (jitter_of w))) (joined d e)
   full_gathers (Full count) o q =
-      whole (Flown w (Filled es k)) (eight, (read_before told t.told base es p.0 grows, makes, eighty)) refl
-      (rw (p.1, q.1) (bare-step so_far (w ++ k) (AppendFull ∷ [])))
+      whole (Flown w (Filled es k)) (eight, (read, makes, eighty, q.1)) refl
+      (rw (p.1, q.2) (bare-step so_far (w ++ k) (AppendFull ∷ [])))
   full_gathers (Shorter had got) o q =
-      whole (Flown w (Shrunk es k got)) (eight, (o, p.0.0, makes, eighty, rw (← q.0) q.1)) refl
+      whole (Flown w (Shrunk es k got)) (eight, (o, read, makes, eighty, rw (← q.0) q.1)) refl
       (rw (p.1, q.2, q.0) (bare-step so_far (w ++ k) (WentBack (length es) got ∷ [])))
   full_gathers _ o q = cc
 
   pub append_gathers : (why : Refusal) → goes_on t.opening why ≡ false → Appends t.told es (new_key t es k) (Err why) e → Gathers t base (Err why) (joined d e)
   append_gathers StoreFault o q =
-      whole (Broken (NoAppend es w k)) (p.0.0, makes, eight, eighty) refl (rw (p.1, q) (bare-step so_far (w ++ k) (AppendFailed ∷ [])))
+      whole (Broken (NoAppend es w k)) (read, makes, eight, eighty) refl (rw (p.1, q) (bare-step so_far (w ++ k) (AppendFailed ∷ [])))
   append_gathers (Shorter had got) o q =
-      whole (Broken (ShortAppend es w k got)) (o, p.0.0, makes, eight, eighty, rw (← q.0) q.1) (ap (λ h. Err (Shorter h got)) (sym q.0))
+      whole (Broken (ShortAppend es w k got)) (o, read, makes, eight, eighty, rw (← q.0) q.1) (ap (λ h. Err (Shorter h got)) (sym q.0))
       (rw (p.1, q.2, q.0) (bare-step so_far (w ++ k) (WentBack (length es) got ∷ [])))
   append_gathers Memory o (inl q) =
-      cut (Broken (NoAppend es w k)) (p.0.0, makes, eight, eighty) refl
-      (front_unnoted (joined d e) so_far (AppendFailed ∷ []) (w ++ k) None 0 (rw (p.1, q) (ap (λ (b : List ℕ). record (bare so_far b) { unnoted = 1 }) (append-nil (w ++ k)))))
+      cut (Broken (NoAppend es w k)) (read, makes, eight, eighty) refl
+      (front_unnoted (joined d e) so_far (AppendFailed ∷ []) (w ++ k) [] [] None 0 (rw (p.1, q) (ap (λ (b : List ℕ). record (bare so_far b) { unnoted = 1 }) (append-nil (w ++ k)))))
   append_gathers Memory o (inr q) = keyed_cut q.0 q.1 q.2 q.3
   append_gathers (Full count) o q = cc
   append_gathers _ o q = elim q [ ]
@@ -160,12 +179,14 @@ module _ (t : Terms) (base : List Element) (s : Sight) where
   flight_cut r d (whole x is e q) = cut x is refl (record {
     steps = (last_step t.now s (gather_end t x) ∷ [], rw q refl);
     drawn = ([], rw q (sym (append-nil (gather_course x).drawn)));
+    rings = (last_ring t.now s (gather_end t x) ∷ [], rw q refl);
     published = inl (ap (λ (c : Course). c.published) q ∙ gather_unpublished x);
     unnoted = omega (arith, ap (λ (c : Course). c.unnoted) q, gather_noted x);
   })
   flight_cut r d (cut x is e f) = cut x is refl (record {
     steps = (f.steps.0 ++ last_step t.now s (gather_end t x) ∷ [], ap (λ z. z ++ last_step t.now s (gather_end t x) ∷ []) f.steps.1 ∙ append_assoc d.steps f.steps.0 (last_step t.now s (gather_end t x) ∷ []));
     drawn = f.drawn;
+    rings = (f.rings.0 ++ last_ring t.now s (gather_end t x) ∷ [], ap (λ z. z ++ last_ring t.now s (gather_end t x) ∷ []) f.rings.1 ∙ append_assoc d.rings f.rings.0 (last_ring t.now s (gather_end t x) ∷ []));
     published = inl (none_of d (gather_course x) (gather_unpublished x) f);
     unnoted = f.unnoted;
   })

@@ -14,23 +14,24 @@ pub bare-step : (s : List Step) (b : List ℕ) (t : List Step) → joined (bare 
 bare-step s b t = ap (bare (s ++ t)) (append-nil b)
 
 -- a course so far is a front of one that goes on without drawing
-pub front : (d : Course) (s rest : List Step) (b : List ℕ) (p : Option RingOf) (k : ℕ) → d ≡ bare s b → IsFront d (record { steps = s ++ rest; drawn = b; published = p; unnoted = k })
-front d s rest b p k e =
-    rw e (record { steps = (rest, refl); drawn = ([], sym (append-nil b)); published = inl refl; unnoted = omega arith })
+pub front : (d : Course) (s rest : List Step) (b : List ℕ) (rs : List RingOf) (p : Option RingOf) (k : ℕ) → d ≡ bare s b → IsFront d (record { steps = s ++ rest; drawn = b; rings = rs; published = p; unnoted = k })
+front d s rest b rs p k e =
+    rw e (record { steps = (rest, refl); drawn = ([], sym (append-nil b)); rings = (rs, refl); published = inl refl; unnoted = omega arith })
 
 -- one that found no memory in a call of the repository
-pub front_unnoted : (d : Course) (s rest : List Step) (b : List ℕ) (p : Option RingOf) (k : ℕ) → d ≡ record (bare s b) { unnoted = 1 } → IsFront d (record { steps = s ++ rest; drawn = b; published = p; unnoted = k })
-front_unnoted d s rest b p k e =
-    rw e (record { steps = (rest, refl); drawn = ([], sym (append-nil b)); published = inl refl; unnoted = omega arith })
+pub front_unnoted : (d : Course) (s rest : List Step) (b : List ℕ) (rs more : List RingOf) (p : Option RingOf) (k : ℕ) → d ≡ record (bare s b) { rings = rs; unnoted = 1 } → IsFront d (record { steps = s ++ rest; drawn = b; rings = rs ++ more; published = p; unnoted = k })
+front_unnoted d s rest b rs more p k e =
+    rw e (record { steps = (rest, refl); drawn = ([], sym (append-nil b)); rings = (more, refl); published = inl refl; unnoted = omega arith })
 
 -- a whole course is a front of itself
 pub front_whole : (d : Course) → d.unnoted ≤ 1 → IsFront d d
-front_whole d u = record { steps = ([], sym (append-nil d.steps)); drawn = ([], sym (append-nil d.drawn)); published = inr refl; unnoted = u }
+front_whole d u = record { steps = ([], sym (append-nil d.steps)); drawn = ([], sym (append-nil d.drawn)); rings = ([], sym (append-nil d.rings)); published = inr refl; unnoted = u }
 
-pub front_led : (s : List Step) (d w : Course) → IsFront d w → IsFront (led s d) (led s w)
-front_led s d w f = record {
+pub front_led : (s : List Step) (rs : List RingOf) (d w : Course) → IsFront d w → IsFront (led s rs d) (led s rs w)
+front_led s rs d w f = record {
   steps = (f.steps.0, ap (λ z. s ++ z) f.steps.1 ∙ sym (append_assoc s d.steps f.steps.0));
   drawn = f.drawn;
+  rings = (f.rings.0, ap (λ z. rs ++ z) f.rings.1 ∙ sym (append_assoc rs d.rings f.rings.0));
   published = f.published;
   unnoted = f.unnoted;
 }
@@ -39,6 +40,7 @@ pub front_closed : (t : List Step) (d w : Course) → IsFront d w → IsFront d 
 front_closed t d w f = record {
   steps = (f.steps.0 ++ t, ap (λ z. z ++ t) f.steps.1 ∙ append_assoc d.steps f.steps.0 t);
   drawn = f.drawn;
+  rings = f.rings;
   published = f.published;
   unnoted = f.unnoted;
 }

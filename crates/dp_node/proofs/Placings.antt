@@ -27,11 +27,11 @@ module _ (told : Option (List Element)) (own : List Element) (e : Element) where
 
   pub append_unplaced : (why : Refusal) (d : Course) → Appends told own e (Err why) d → PlacePath (asked own false (λ _. e) told) (Err why) own d
   append_unplaced StoreFault d p = complete (Unplaced []) refl refl refl p
-  append_unplaced (Full count) d p = complete (Overfull []) refl (ap (λ n. Err (Full n)) (sym p.0)) refl p.1
+  append_unplaced (Full count) d p = complete (Overfull []) (refl, p.1) (ap (λ n. Err (Full n)) (sym p.0)) refl p.2
   append_unplaced (Shorter had got) d p =
       complete (Receded [] got) (refl, rw (← p.0) p.1) (ap (λ n. Err (Shorter n got)) (sym p.0)) refl (rw p.0 at p.2)
-  append_unplaced Memory d (inl p) = cut_off (Unplaced []) refl refl refl (front_unnoted d [] (AppendFailed ∷ []) [] None 0 p)
-  append_unplaced Memory d (inr p) = cut_off (Placed [] p.0) (refl, p.2, p.1) refl refl (front d (Appended (length p.0 - 1) ∷ []) [] [] None 0 p.3)
+  append_unplaced Memory d (inl p) = cut_off (Unplaced []) refl refl refl (front_unnoted d [] (AppendFailed ∷ []) [] [] [] None 0 p)
+  append_unplaced Memory d (inr p) = cut_off (Placed [] p.0) (refl, p.2, p.1) refl refl (front d (Appended (length p.0 - 1) ∷ []) [] [] [] None 0 p.3)
   append_unplaced _ d p = elim p [ ]
 
 -- after a draw of eighty bytes
@@ -45,6 +45,7 @@ key_front : (k b : List ℕ) (s : List Step) (d : Course) → b ≡ [] → IsFro
 key_front k b s d e f = record {
   steps = (f.steps.0, ap (λ z. Drawn 80 ∷ z) f.steps.1);
   drawn = (f.drawn.0, sym (append_assoc k d.drawn f.drawn.0 ∙ ap (λ z. k ++ z) (sym f.drawn.1 ∙ e) ∙ append-nil k));
+  rings = f.rings;
   published = inl (none_before d.published None refl (elim f.published [ inl n ↦ n | inr n ↦ n ]));
   unnoted = omega (arith, f.unnoted);
 }
@@ -60,14 +61,14 @@ module _ (told : Option (List Element)) (own : List Element) (make : List ℕ �
   key_placed r own' d (complete (Unplaced b) is end o q) =
       complete (Unplaced k) eighty end o (rw (q, is) (after_key (AppendFailed ∷ []) k))
   key_placed r own' d (complete (Overfull b) is end o q) =
-      complete (Overfull k) eighty end o (rw (q, is) (after_key (AppendFull ∷ []) k))
+      complete (Overfull k) (eighty, is.1) end o (rw (q, is.0) (after_key (AppendFull ∷ []) k))
   key_placed r own' d (complete (Receded b got) is end o q) =
       complete (Receded k got) (eighty, is.1) end o (rw (q, is.0) (after_key (WentBack (length own) got ∷ []) k))
   key_placed r own' d (cut_off (Placed b fs) is end o f) =
       cut_off (Placed k fs) (eighty, grown_key fs is.1, is.2) end o (key_front k b (Appended (length fs - 1) ∷ []) d is.0 f)
   key_placed r own' d (cut_off Undrawn is end o f) = cc
   key_placed r own' d (cut_off (Unplaced b) is end o f) = cut_off (Unplaced k) eighty end o (key_front k b (AppendFailed ∷ []) d is f)
-  key_placed r own' d (cut_off (Overfull b) is end o f) = cut_off (Overfull k) eighty end o (key_front k b (AppendFull ∷ []) d is f)
+  key_placed r own' d (cut_off (Overfull b) is end o f) = cut_off (Overfull k) (eighty, is.1) end o (key_front k b (AppendFull ∷ []) d is.0 f)
   key_placed r own' d (cut_off (Receded b got) is end o f) = cut_off (Receded k got) (eighty, is.1) end o (key_front k b (WentBack (length own) got ∷ []) d is.0 f)
 
 -- a key that was drawn is placed

@@ -9,10 +9,10 @@ use Rattle.ring_world.specs.declared.step.Step.TheVariants.{Want, Take, Give}
 use Rattle.ring_world.specs.declared.step.TheConstants.{SECOND_TRY_SPAN}
 use Rattle.ring_world.specs.Course.{Course, stepped, led, closed, holds}
 use Rattle.ring_world.specs.Flight.{Refusal, Forked, Memory, Sight, sight_steps, NoRead, Broken, whole, cut, FlightGives}
-use Rattle.ring_world.specs.Path.{Call, base, Sees, Parts, Flies, turn_course}
+use Rattle.ring_world.specs.Path.{Call, base, Sees, Wants, Blind, Parts, Flies, sight_course, after_sight, turn_course}
 use Rattle.ring_world.specs.Settle.{any_reads, lacks_named, misses, Settle, Keeps, Stays, Again, settle_course, SecondGives, flew, fly_stopped, SettleGives, settled, settle_stopped}
 use Rattle.dp_node.proofs.Fronts.{front_whole, front_led, front_closed, all_leave, all_leave-front, held_behind, free_behind}
-use Rattle.dp_node.proofs.Courses.{turn_leaves, turn_noted, some_sight, want_front}
+use Rattle.dp_node.proofs.Courses.{turn_leaves, turn_noted}
 
 -- behind a second try the turn is free
 pub settle_free : (c : Call) (x : Settle) → holds false (settle_course c x).steps ≡ false
@@ -27,32 +27,29 @@ settle_noted c (Again t) = turn_noted c t
 
 module _ (c : Call) where
   -- no memory was found for the look
-  pub second_none : (n : ℕ) → IfSome c.single (λ one. n ≡ one.want) → SecondGives c (Err Memory) (stepped (Want n ∷ []))
-  second_none n h =
-      let s = some_sight n c.single h in
-      let x = Flies s.0 (Broken NoRead) in
-      fly_stopped x (s.1, tt) refl (want_front s.0 n (turn_course c x) _ s.2 refl refl)
+  pub second_none : (n : ℕ) → Wants c n → SecondGives c (Err Memory) (stepped (Want n ∷ []))
+  second_none n h = flew (Blind n) h tt refl refl
 
 module _ (c : Call) (t : Sight) (sees : Sees c t) where
-  pub second_flies : (r : Result RingOf Refusal) → Agree c.own t.ring.list → (d : Course) → FlightGives c.terms (base c t) t r d → SecondGives c r (led (sight_steps t) d)
-  second_flies r line d (whole x is e q) = flew (Flies t x) (sees, is) line e (ap (led (sight_steps t)) q)
-  second_flies r line d (cut x is e f) = fly_stopped (Flies t x) (sees, is) e (front_led (sight_steps t) d _ f)
+  pub second_flies : (r : Result RingOf Refusal) → Agree c.own t.ring.list → (d : Course) → FlightGives c.terms (base c t) t r d → SecondGives c r (after_sight t [] d)
+  second_flies r line d (whole x is e q) = flew (Flies t x) (sees, is) line e (ap (after_sight t []) q)
+  second_flies r line d (cut x is e f) = fly_stopped (Flies t x) (sees, is) line e (front_led (sight_steps t) (t.ring ∷ []) d _ f)
 
-  pub second_apart : (at : ℕ) (left right : List Element) → IsFirstDifference c.own t.ring.list at → left ≡ c.own → right ≡ t.ring.list → SecondGives c (Err (Forked at left right)) (stepped (sight_steps t))
+  pub second_apart : (at : ℕ) (left right : List Element) → IsFirstDifference c.own t.ring.list at → left ≡ c.own → right ≡ t.ring.list → SecondGives c (Err (Forked at left right)) (sight_course t [])
   second_apart at left right f l r = rw (l, r) (flew (Parts t at) (sees, f) tt refl refl)
 
-  pub second_apart_lost : (at : ℕ) → IsFirstDifference c.own t.ring.list at → SecondGives c (Err Memory) (stepped (sight_steps t))
-  second_apart_lost at f = fly_stopped (Parts t at) (sees, f) refl (front_whole (stepped (sight_steps t)) (omega arith))
+  pub second_apart_lost : (at : ℕ) → IsFirstDifference c.own t.ring.list at → SecondGives c (Err Memory) (sight_course t [])
+  second_apart_lost at f = fly_stopped (Parts t at) (sees, f) tt refl (front_whole (sight_course t []) (omega arith))
 
 module _ (c : Call) (s : List Step) (r : RingOf) where
   -- the holder gives the turn back
-  pub settle_again : misses c s r ≡ true → (result : Result RingOf Refusal) (d : Course) → SecondGives c result d → SettleGives c s r result (led (Take ∷ []) (closed d (Give ∷ [])))
-  settle_again m result d (flew x is l e q) = settled (Again x) (m, is) l e (ap (λ (y : Course). led (Take ∷ []) (closed y (Give ∷ []))) q)
-  settle_again m result d (fly_stopped x is e f) =
+  pub settle_again : misses c s r ≡ true → (result : Result RingOf Refusal) (d : Course) → SecondGives c result d → SettleGives c s r result (led (Take ∷ []) [] (closed d (Give ∷ [])))
+  settle_again m result d (flew x is l e q) = settled (Again x) (m, is) l e (ap (λ (y : Course). led (Take ∷ []) [] (closed y (Give ∷ []))) q)
+  settle_again m result d (fly_stopped x is l e f) =
       let held : holds true d.steps ≡ true = held_behind d.steps (all_leave-front d.steps f.steps.0 (sym (ap all_leave f.steps.1) ∙ turn_leaves c x)) in
-      settle_stopped x (m, is) e (record {
-        front = led (Take ∷ []) d;
-        is = front_led (Take ∷ []) d (closed (turn_course c x) (Give ∷ [])) (front_closed (Give ∷ []) d (turn_course c x) f);
+      settle_stopped x (m, is) l e (record {
+        front = led (Take ∷ []) [] d;
+        is = front_led (Take ∷ []) [] d (closed (turn_course c x) (Give ∷ [])) (front_closed (Give ∷ []) d (turn_course c x) f);
         given = sym (rw held refl);
       })
 
@@ -72,5 +69,5 @@ settle_single c single s r result d same (settled Keeps m l e q) = settled Keeps
 settle_single c single s r result d same (settled (Stays h) m l e q) = settled (Stays h) (m.0, sym (same m.0) ∙ m.1) l e q
 settle_single c single s r result d same (settled (Again t) m l e q) =
     subst (λ o. SettleGives (record c { single = o }) s r result d) (same m.0) (settled (Again t) m l e q)
-settle_single c single s r result d same (settle_stopped t m e g) =
-    subst (λ o. SettleGives (record c { single = o }) s r result d) (same m.0) (settle_stopped t m e g)
+settle_single c single s r result d same (settle_stopped t m l e g) =
+    subst (λ o. SettleGives (record c { single = o }) s r result d) (same m.0) (settle_stopped t m l e g)

@@ -16,7 +16,7 @@ one_sight n r (Some one) p q =
 pub seen_by : (n : ℕ) (r : RingOf) (h h1 : HostState) → h1 ≡ acted (Want n) h → Answers n h → Shows r h1 → SeenBy (record { want = n; ring = r }) h
 seen_by n r h h1 e p q =
     let q' : Shows r (acted (Want n) h) = subst (Shows r) e q in
-    (q'.0, one_sight n r h.single p q'.1)
+    (q'.0, q'.1, one_sight n r h.single p q'.2)
 
 pub sighted-is : (n : ℕ) (r : RingOf) (h h1 h2 : HostState) → h1 ≡ acted (Want n) h → h2 ≡ looked_at r h1 → h2 ≡ sighted (record { want = n; ring = r }) h
 sighted-is n r h h1 h2 e f = f ∙ ap (looked_at r) e

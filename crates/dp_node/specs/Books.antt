@@ -6,7 +6,7 @@ use Rattle.key_ring.specs.Ring.{RingOf}
 use Rattle.repo_keeper.specs.Store.{Store, Tally, Moved, no_calls, one_call}
 use Rattle.ring_world.specs.declared.step.Step.{Step}
 use Rattle.ring_world.specs.declared.step.Step.TheVariants.{Want, Look, Take, Busy, Give, Read, PrivateRead, ReadFailed, WentBack, DrawFailed, Appended, AppendFull, AppendFailed, Publish, Extend, RaiseWant}
-use Rattle.ring_world.specs.Course.{Course, drawn_count, any_publishes}
+use Rattle.ring_world.specs.Course.{Course, drawn_count, ring_count, last_of, any_publishes}
 use Rattle.ring_world.specs.Flight.{Sight}
 use Rattle.dp_node.specs.HostState.{HostState, latest}
 
@@ -109,6 +109,9 @@ pub record Recorded (d : Course) (old new : Books) : Type 0 where
   pub steps : new.steps ≡ old.steps ++ d.steps
   pub acts : latest new.host.acts ≡ latest (old.host.acts ++ acts (length old.host.looked.list) d.steps)
   pub front : length new.host.looked.list ≡ front_of (length old.host.looked.list) d.steps
+  pub looked : new.host.looked ≡ last_of old.host.looked d.rings
+  pub rings : length d.rings ≡ ring_count d.steps
+  pub line : Extends new.host.looked.list old.host.looked.list
   pub floor : Extends new.host.floor old.host.floor
   pub facts : new.host.facts ≡ old.host.facts
   pub single : new.host.single ≡ option_map (shown_by d) old.host.single

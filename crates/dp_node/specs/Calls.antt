@@ -10,13 +10,15 @@ use Rattle.ring_world.specs.Path.{Call}
 use Rattle.dp_node.specs.declared.call.At.{At}
 use Rattle.dp_node.specs.HostState.{HostState}
 
-abbrev pub terms : ℕ → Options → Bool → Option (List Element) → Terms
-terms now options opening told = record { now = now; options = options; opening = opening; told = told }
+abbrev pub terms : ℕ → Options → Bool → Option (List Element) → Option (List Element) → Terms
+terms now options opening before told =
+    record { now = now; options = options; opening = opening; before = before; told = told }
 
--- the call of a pass, which may name a key that its ring should hold
-abbrev pub call : At → Option KeyId → HostState → Option (List Element) → Call
-call at missing s told = record {
-  terms = terms at.now s.facts.options false told;
+-- the call of a pass, which may name a key that its ring should hold; the repository's list before it
+-- and at its end
+abbrev pub call : At → Option KeyId → HostState → Option (List Element) → Option (List Element) → Call
+call at missing s before told = record {
+  terms = terms at.now s.facts.options false before told;
   need = at.need;
   missing = missing;
   opened_at = s.facts.opened_at;

@@ -1,5 +1,5 @@
 -- What one call of the repository or of the draws leaves: its step, and what it gave.
-use Rattle.std.specs.Prelude.{◌≡◌, ℕ, ◌-◌, ◌<◌, Bool, true, false, List, [], ◌∷◌, length, Option, Result, Ok, Err, ◌⊎◌}
+use Rattle.std.specs.Prelude.{◌≡◌, ℕ, ◌-◌, Bool, true, false, List, [], ◌∷◌, length, Option, Result, Ok, Err, ◌⊎◌}
 use Rattle.key_elements.specs.declared.element.Element.{Element}
 use Rattle.key_elements.specs.declared.element.Element.TheVariants.{Key}
 use Rattle.key_elements.specs.declared.element.KeyRecord.{KeyRecord}
@@ -9,7 +9,7 @@ use Rattle.repo_keeper.specs.declared.repo.RepoError.TheVariants.{Failed, Short,
 use Rattle.ring_world.specs.declared.step.Step.{Step}
 use Rattle.ring_world.specs.declared.step.Step.TheVariants.{Read, PrivateRead, ReadFailed, WentBack, Drawn, DrawFailed, Appended, AppendFull, AppendFailed}
 use Rattle.ring_world.specs.Course.{Course, idle, stepped}
-use Rattle.ring_world.specs.Lists.{IsReadFrom, IsGrown}
+use Rattle.ring_world.specs.Lists.{IsReadFrom, IsShort, IsFilled, IsGrown}
 use Rattle.ring_world.specs.Flight.{Refusal, StoreFault, DrawFault, Shorter, Behind, Forked, Full, BadDates, Memory}
 use Rattle.dp_node.specs.declared.error.NodeError.{NodeError}
 use Rattle.dp_node.specs.declared.error.NodeError.TheVariants as errors
@@ -67,7 +67,7 @@ Reads private told base (Ok es) d =
     IsReadFrom told base es × (d ≡ stepped (read_step private (length es) ∷ []))
 Reads private told base (Err StoreFault) d = d ≡ stepped (ReadFailed ∷ [])
 Reads private told base (Err (Shorter had got)) d =
-    (had ≡ length base) × (got < had) × (d ≡ stepped (WentBack had got ∷ []))
+    (had ≡ length base) × IsShort told had got × (d ≡ stepped (WentBack had got ∷ []))
 Reads private told base (Err Memory) d =
     (d ≡ unnoted_call)
     ⊎ ((es : List Element) × IsReadFrom told base es × (d ≡ stepped (read_step private (length es) ∷ [])))
@@ -95,10 +95,11 @@ IsKeyElement e = (k : KeyRecord) × (e ≡ Key k)
 abbrev pub Appends : Option (List Element) → List Element → Element → Result (List Element) Refusal → Course → Type 0
 Appends told es e (Ok fs) d =
     IsReadFrom told es fs × IsGrown es e fs × (d ≡ stepped (Appended (length fs - 1) ∷ []))
-Appends told es e (Err (Full count)) d = (count ≡ MAX_ELEMENTS) × (d ≡ stepped (AppendFull ∷ []))
+Appends told es e (Err (Full count)) d =
+    (count ≡ MAX_ELEMENTS) × IsFilled told × (d ≡ stepped (AppendFull ∷ []))
 Appends told es e (Err StoreFault) d = d ≡ stepped (AppendFailed ∷ [])
 Appends told es e (Err (Shorter had got)) d =
-    (had ≡ length es) × (got < had) × (d ≡ stepped (WentBack had got ∷ []))
+    (had ≡ length es) × IsShort told had got × (d ≡ stepped (WentBack had got ∷ []))
 Appends told es e (Err Memory) d =
     (d ≡ unnoted_call)
     ⊎ ((fs : List Element) × IsReadFrom told es fs × IsGrown es e fs × (d ≡ stepped (Appended (length fs - 1) ∷ [])))

@@ -63,7 +63,7 @@ raised n s = acted (RaiseWant n) (record s { single = option_map (wanted n) s.si
 
 -- a look may show the ring
 abbrev pub Shows : RingOf → HostState → Type 0
-Shows r s = Extends r.list s.floor × IfSome s.single (λ one. r ≡ one.ring)
+Shows r s = Extends r.list s.floor × Extends r.list s.looked.list × IfSome s.single (λ one. r ≡ one.ring)
 
 -- the want number may be n
 abbrev pub Answers : ℕ → HostState → Type 0

@@ -19,7 +19,7 @@ sighted s h = looked_at s.ring (acted (Want s.want) h)
 
 -- the host may show this
 abbrev pub SeenBy : Sight → HostState → Type 0
-SeenBy s h = Extends s.ring.list h.floor × IfSome h.single (λ one. s ≡ one)
+SeenBy s h = Extends s.ring.list h.floor × Extends s.ring.list h.looked.list × IfSome h.single (λ one. s ≡ one)
 
 -- a look that gave nothing: no memory was found for it, or the list that it showed differs
 abbrev pub LookRefused : NodeError → HostState → HostState → List Step → List Step → Type 0

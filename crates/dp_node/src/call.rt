@@ -1,9 +1,11 @@
 //! A call that needs a ring.
 
-ghost use Rattle.std.specs.Prelude.{◌≡◌, ◌+◌, ◌≤◌, false, true, [], length, max, IfOk, Bool, Option};
+ghost use Rattle.std.specs.Prelude.{◌≡◌, ◌+◌, ◌≤◌, false, true, List, [], length, max, IfOk, Bool, Option};
 ghost use Rattle.dp_base.specs.declared.key_id.KeyId.{KeyId};
 ghost use Rattle.dp_base.specs.declared.ticks.TheConstants.{LAST};
+ghost use Rattle.key_elements.specs.declared.element.Element.{Element};
 ghost use Rattle.key_elements.specs.Lists.{Extends, Agree};
+ghost use Rattle.repo_keeper.specs.Store.{Grows};
 ghost use Rattle.ring_world.specs.Lists.{longer};
 ghost use Rattle.ring_world.specs.Flight.{FlightGives};
 ghost use Rattle.ring_world.specs.Path.{TurnGives, PathGives};
@@ -67,7 +69,8 @@ pub(crate) fn flight<W, H: Host<W>, R: Repo<W>, D: Draw>(
     requires looked { (H.state host.old).looked ≡ sight.now.ring }
     requires in_line { Agree (H.state host.old).own sight.now.ring.list }
     requires room { length steps.old + 5 ≤ 24 }
-    ensures did { Does (FlightGives (terms at.now (H.state host.old).facts.options false
+    ensures did { (before : Option (List Element)) → Grows before (R.store repo.old).list →
+        Does (FlightGives (terms at.now (H.state host.old).facts.options false before
         (R.store repo.new).list) (longer (H.state host.old).own sight.now.ring.list)
         (sight_of sight.now) (seen result))
         (books steps.old (H.state host.old) (R.store repo.old) (D.draws draw.old))
@@ -119,8 +122,9 @@ fn under_turn<W, H: Host<W>, R: Repo<W>, D: Draw>(
     requires held { (H.state host.old).held ≡ true }
     requires target { target ≡ max at.need (length (H.state host.old).own) }
     requires room { length steps.old + 7 ≤ 24 }
-    ensures did { (missing : Option KeyId) → Does (TurnGives (call at missing
-        (H.state host.old) (R.store repo.new).list) (seen result))
+    ensures did { (missing : Option KeyId) (before : Option (List Element)) →
+        Grows before (R.store repo.old).list → Does (TurnGives (call at missing
+        (H.state host.old) before (R.store repo.new).list) (seen result))
         (books steps.old (H.state host.old) (R.store repo.old) (D.draws draw.old))
         (books steps.new (H.state host.new) (R.store repo.new) (D.draws draw.new)) }
     ensures steady { Steady (H.state host.old) (H.state host.new) }
@@ -151,7 +155,7 @@ fn find<W, H: Host<W>, R: Repo<W>, D: Draw>(
     requires target { target ≡ max at.need (length (H.state host.old).own) }
     requires room { steps.old ≡ [] }
     ensures did { (missing : Option KeyId) → Does (PathGives (call at missing
-        (H.state host.old) (R.store repo.new).list) (seen result))
+        (H.state host.old) (R.store repo.old).list (R.store repo.new).list) (seen result))
         (books steps.old (H.state host.old) (R.store repo.old) (D.draws draw.old))
         (books steps.new (H.state host.new) (R.store repo.new) (D.draws draw.new)) }
     ensures steady { Steady (H.state host.old) (H.state host.new) }
@@ -232,8 +236,8 @@ pub fn ring_for<W, H: Host<W>, R: Repo<W>, D: Draw>(
     requires moment { at.now ≤ LAST }
     requires free { (H.state host.old).held ≡ false }
     requires room { steps.old ≡ [] }
-    ensures path { Does (CallPath (call at missing (H.state host.old) (R.store repo.new).list)
-        (seen result) (H.state host.new).own)
+    ensures path { Does (CallPath (call at missing (H.state host.old) (R.store repo.old).list
+        (R.store repo.new).list) (seen result) (H.state host.new).own)
         (books [] (H.state host.old) (R.store repo.old) (D.draws draw.old))
         (books steps.new (H.state host.new) (R.store repo.new) (D.draws draw.new)) }
     ensures free { (H.state host.new).held ≡ false }

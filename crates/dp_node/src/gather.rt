@@ -11,7 +11,7 @@ ghost use Rattle.key_elements.specs.declared.list.TheConstants.{MAX_ELEMENTS};
 ghost use Rattle.key_elements.specs.Record.{IsElement};
 ghost use Rattle.key_elements.specs.Lists.{Extends};
 ghost use Rattle.key_ring.specs.Ring.{preferred_key};
-ghost use Rattle.repo_keeper.specs.Store.{Store};
+ghost use Rattle.repo_keeper.specs.Store.{Store, Grows};
 ghost use Rattle.repo_keeper.specs.Made.{key_of_draw, AreBadDates};
 ghost use Rattle.ring_world.specs.Flight.{Gathers, activation_of, jitter_of, makes_key};
 ghost use Rattle.dp_node.specs.declared.error.NodeError.TheVariants.{BadDates};
@@ -218,8 +218,9 @@ pub(crate) fn draw_key<D: Draw>(
 
 // Whether a flight that read the ring's list makes a key.
 fn makes_key(ring: &Ring, options: &Options) -> bool
-    ensures { (now : ℕ) (opening : Bool) (told : Option (List Element)) → ring.now.made_at ≡ now
-        → result ≡ makes_key (terms now options.now opening told) ring.now.list }
+    ensures { (now : ℕ) (opening : Bool) (before told : Option (List Element)) →
+        ring.now.made_at ≡ now → result ≡ makes_key (terms now options.now opening before told)
+        ring.now.list }
 {
     options.auto && ring.renew() && ring.list().len() < MAX_ELEMENTS
 }
@@ -250,7 +251,8 @@ pub(crate) fn gather<W, R: Repo<W>, D: Draw>(
 ) -> Result<Ring, NodeError>
     requires room { length steps.old + 4 ≤ 24 }
     requires moment { now ≤ LAST }
-    ensures did { (host : HostState) → Does (Gathers (terms now options.now opening
+    ensures did { (host : HostState) (before : Option (List Element)) →
+        Grows before (R.store repo.old).list → Does (Gathers (terms now options.now opening before
         (R.store repo.new).list) base.now (seen result))
         (books steps.old host (R.store repo.old) (D.draws draw.old))
         (books steps.new host (R.store repo.new) (D.draws draw.new)) }

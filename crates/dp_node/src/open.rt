@@ -72,7 +72,7 @@ impl Solo {
         ensures opened { (r : Result RingOf Refusal) × (steps : List Step) × Opens
             (first_facts now options) result r
             × ((host : HostState) → Does (Gathers (terms now options true
-            (R.store repo.new).list) [] r)
+            (R.store repo.old).list (R.store repo.new).list) [] r)
             (books [] host (R.store repo.old) (D.draws draw.old))
             (books steps host (R.store repo.new) (D.draws draw.new))) }
     {

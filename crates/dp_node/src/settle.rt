@@ -5,6 +5,7 @@ ghost use Rattle.dp_base.specs.declared.key_id.KeyId.{KeyId};
 ghost use Rattle.dp_base.specs.declared.ticks.TheConstants.{LAST};
 ghost use Rattle.key_elements.specs.declared.element.Element.{Element};
 ghost use Rattle.key_elements.specs.Lists.{Extends};
+ghost use Rattle.repo_keeper.specs.Store.{Grows};
 ghost use Rattle.ring_world.specs.declared.step.TheConstants.{SECOND_TRY_SPAN};
 ghost use Rattle.ring_world.specs.Settle.{reads, any_reads, lacks, lacks_named, misses, SecondGives, SettleGives};
 ghost use Rattle.dp_node.specs.HostState.{HostState, Steady};
@@ -66,8 +67,8 @@ fn is_young(facts: &NodeFacts, now: u64) -> bool
 
 // Whether a call that made these steps and has this ring at hand tries once more.
 fn misses(facts: &NodeFacts, at: At, missing: Option<KeyId>, found: &Ring, steps: &[Step]) -> bool
-    ensures { (host : HostState) (told : Option (List Element)) → host.facts ≡ facts.now
-        → result ≡ misses (call at missing host told) steps.now found.now }
+    ensures { (host : HostState) (before told : Option (List Element)) → host.facts ≡ facts.now
+        → result ≡ misses (call at missing host before told) steps.now found.now }
 {
     lacks_named(found, missing) && is_young(facts, at.now) && !any_reads(steps)
 }
@@ -85,8 +86,9 @@ fn fly_again<W, H: Host<W>, R: Repo<W>, D: Draw>(
     requires moment { at.now ≤ LAST }
     requires held { (H.state host.old).held ≡ true }
     requires room { length steps.old + 7 ≤ 24 }
-    ensures did { (missing : Option KeyId) → Does (SecondGives (call at missing
-        (H.state host.old) (R.store repo.new).list) (seen result))
+    ensures did { (missing : Option KeyId) (before : Option (List Element)) →
+        Grows before (R.store repo.old).list → Does (SecondGives (call at missing
+        (H.state host.old) before (R.store repo.new).list) (seen result))
         (books steps.old (H.state host.old) (R.store repo.old) (D.draws draw.old))
         (books steps.new (H.state host.new) (R.store repo.new) (D.draws draw.new)) }
     ensures steady { Steady (H.state host.old) (H.state host.new) }
@@ -115,12 +117,14 @@ pub(crate) fn settle<W, H: Host<W>, R: Repo<W>, D: Draw>(
     requires extends { Extends found.list (H.state host.old).own }
     requires looked { is_private steps.old ≡ false → (H.state host.old).looked ≡ found }
     requires room { length steps.old + 9 ≤ 24 }
-    ensures did { Does (SettleGives (call at missing (H.state host.old) (R.store repo.new).list)
+    ensures did { (before : Option (List Element)) → Grows before (R.store repo.old).list →
+        Does (SettleGives (call at missing (H.state host.old) before (R.store repo.new).list)
         steps.old found (seen result))
         (books steps.old (H.state host.old) (R.store repo.old) (D.draws draw.old))
         (books steps.new (H.state host.new) (R.store repo.new) (D.draws draw.new)) }
-    ensures kept { misses (call at missing (H.state host.old) (R.store repo.new).list) steps.old
-        found ≡ false → repo.new ≡ repo.old }
+    ensures kept { (before : Option (List Element)) → misses (call at missing
+        (H.state host.old) before (R.store repo.new).list) steps.old found ≡ false →
+        repo.new ≡ repo.old }
     ensures steady { Steady (H.state host.old) (H.state host.new) }
     ensures extends { IfOk result (λ ring. Extends ring.list (H.state host.old).own) }
     ensures looked { IfOk result (λ ring. is_private steps.new ≡ false →

@@ -11,6 +11,16 @@ use Rattle.key_elements.specs.Record.{IsElement}
 use Rattle.repo_keeper.specs.declared.repo.RepoError.{RepoError}
 use Rattle.repo_keeper.specs.declared.repo.RepoError.TheVariants.{Failed, Short, Full, Memory}
 
+-- what a repository belongs to: plain data that clauses alone see, and that no call changes
+pub record Mark : Type 0 where
+  -- the name of what is shared, and the number of the one who shares it
+  pub name : List ℕ
+  pub number : ℕ
+
+-- that of a repository of one's own
+abbrev pub no_mark : Mark
+no_mark = record { name = []; number = 0 }
+
 pub record Store : Type 0 where
   -- the list as far as it was seen
   pub list : Option (List Element)
@@ -21,6 +31,7 @@ pub record Store : Type 0 where
   pub fulls : ℕ
   -- the places of its own appends, from 0, in order
   pub mine : List ℕ
+  pub mark : Mark
 
 -- what some calls add to the counts
 pub record Tally : Type 0 where
@@ -45,6 +56,7 @@ pub record Moved (t : Tally) (old new : Store) : Type 0 where
   pub shorts : new.shorts ≡ more t.shorts old.shorts
   pub fulls : new.fulls ≡ more t.fulls old.fulls
   pub mine : new.mine ≡ old.mine ++ t.places
+  pub mark : new.mark ≡ old.mark
 
 abbrev pub no_calls : Tally
 no_calls = record { calls = 0; faults = 0; shorts = 0; fulls = 0; places = [] }

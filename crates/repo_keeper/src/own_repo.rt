@@ -1,7 +1,9 @@
 //! A repository of one caller over a keeper.
 
-ghost use Rattle.std.specs.Prelude.{◌≡◌, []};
-ghost use Rattle.repo_keeper.specs.Own.{own_store, kept_in};
+ghost use Rattle.std.specs.Prelude.{◌≡◌, [], IfOk, IfErr};
+ghost use Rattle.key_elements.specs.Record.{IsElement};
+ghost use Rattle.repo_keeper.specs.Own.{own_store, kept_in, AppendsOnce};
+ghost use Rattle.repo_keeper.specs.Store.{Moved, read_tally, append_tally, IsTail, EndsWith, IsCause, IsReadCause};
 
 use crate::keeper::{Keeper, KeeperError, PutError};
 use crate::repo::{Repo, RepoError};
@@ -50,7 +52,15 @@ impl<W, K: Keeper> Repo<W> for OwnRepo<K> {
     ghost store = { λ r. own_store (K.kept r.keeper) r.calls r.fulls r.mine.items };
 
     // One load.
-    fn read(&mut self, _w: &mut W, alloc: Global, known: u64) -> Result<Vec<Element>, RepoError> {
+    fn read(&mut self, _w: &mut W, alloc: Global, known: u64) -> Result<Vec<Element>, RepoError>
+        ensures moved { let store = ⟦<OwnRepo<K> as Repo<W>>⟧.store in
+            Moved (read_tally result) (store self.old) (store self.new) }
+        ensures tail { let store = ⟦<OwnRepo<K> as Repo<W>>⟧.store in
+            IfOk result (λ tail. IsTail known tail.items (store self.new).list) }
+        ensures cause { let store = ⟦<OwnRepo<K> as Repo<W>>⟧.store in
+            IfErr result (λ why. IsReadCause known (store self.new).list why) }
+        ensures list { let store = ⟦<OwnRepo<K> as Repo<W>>⟧.store in (store self.new).list ≡ (store self.old).list }
+    {
         self.calls = self.calls.saturating_add(1);
         match self.keeper.load(alloc, known) {
             Ok(tail) => Ok(tail),
@@ -67,7 +77,18 @@ impl<W, K: Keeper> Repo<W> for OwnRepo<K> {
         alloc: Global,
         known: u64,
         e: &Element,
-    ) -> Result<Vec<Element>, RepoError> {
+    ) -> Result<Vec<Element>, RepoError>
+        requires { IsElement e.now }
+        ensures moved { let store = ⟦<OwnRepo<K> as Repo<W>>⟧.store in
+            Moved (append_tally known result) (store self.old) (store self.new) }
+        ensures tail { let store = ⟦<OwnRepo<K> as Repo<W>>⟧.store in
+            IfOk result (λ tail. IsTail known tail.items (store self.new).list) }
+        ensures last { IfOk result (λ tail. EndsWith e.now tail.items) }
+        ensures cause { let store = ⟦<OwnRepo<K> as Repo<W>>⟧.store in
+            IfErr result (λ why. IsCause known (store self.new).list why) }
+        ensures once { let store = ⟦<OwnRepo<K> as Repo<W>>⟧.store in
+            AppendsOnce e.now result (store self.old).list (store self.new).list }
+    {
         self.calls = self.calls.saturating_add(1);
         let mut tail = match self.keeper.load(alloc, known) {
             Ok(tail) => tail,

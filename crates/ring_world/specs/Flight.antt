@@ -9,13 +9,12 @@ use Rattle.default_key.specs.declared.options.TheConstants.{PERIOD}
 use Rattle.key_elements.specs.declared.element.Element.{Element}
 use Rattle.key_elements.specs.declared.element.KeyRecord.{KeyRecord}
 use Rattle.key_elements.specs.declared.list.TheConstants.{MAX_ELEMENTS}
-use Rattle.key_elements.specs.Lists.{Extends}
 use Rattle.key_ring.specs.Ring.{RingOf, ring_of, extended, policy_at, preferred_key}
 use Rattle.repo_keeper.specs.Made.{key_of_draw}
 use Rattle.ring_world.specs.declared.step.Step.{Step}
 use Rattle.ring_world.specs.declared.step.Step.TheVariants.{Want, Look, Read, ReadFailed, WentBack, Drawn, DrawFailed, Appended, AppendFull, AppendFailed, Publish, Extend}
 use Rattle.ring_world.specs.Course.{Course, idle, IsFront}
-use Rattle.ring_world.specs.Lists.{IsReadFrom, IsReadUpTo, IsGrown}
+use Rattle.ring_world.specs.Lists.{IsReadFrom, IsReadUpTo, Reaches, IsShort, IsFilled, IsGrown}
 
 -- why a call isn't answered by a ring or a place
 pub data Refusal : Type 0 where
@@ -51,7 +50,8 @@ pub record Terms : Type 0 where
   pub options : Options
   -- whether it opens the node: then a repository that went back costs the new key alone
   pub opening : Bool
-  -- the list that the repository holds at the end of the call, where it is told
+  -- the lists that the repository holds before the call and at its end, where they are told
+  pub before : Option (List Element)
   pub told : Option (List Element)
 
 -- the jitter of a new ring, of eight bytes drawn
@@ -138,28 +138,34 @@ abbrev pub gather_end : Terms → Flight → Result RingOf Refusal
 gather_end t (Flown w f) = Ok (ring_of (fetched f) t.now (jitter_of w))
 gather_end t (Broken b) = Err (break_end b)
 
+-- the list was read during the call: it begins with the base, goes on as the repository does up to its
+-- end, and has all that stood there before the call
+abbrev pub IsRead : Terms → List Element → List Element → Type 0
+IsRead t base es = IsReadUpTo t.told base es × Reaches es t.before
+
 -- what a flight over the base may read and append
 abbrev pub IsFetch : Terms → List Element → Fetch → Type 0
 IsFetch t base (Plain es) = IsReadFrom t.told base es × (makes_key t es ≡ false)
 IsFetch t base (Keyed es k fs) =
-    Extends es base × (makes_key t es ≡ true) × (length k ≡ 80) × IsGrown es (new_key t es k) fs
+    IsRead t base es × (makes_key t es ≡ true) × (length k ≡ 80) × IsGrown es (new_key t es k) fs
     × IsReadFrom t.told base fs
 IsFetch t base (Filled es k) =
-    IsReadUpTo t.told base es × (makes_key t es ≡ true) × (length k ≡ 80)
+    IsRead t base es × (makes_key t es ≡ true) × (length k ≡ 80) × IsFilled t.told
 IsFetch t base (Shrunk es k got) =
-    (t.opening ≡ true) × Extends es base × (makes_key t es ≡ true) × (length k ≡ 80) × (got < length es)
+    (t.opening ≡ true) × IsRead t base es × (makes_key t es ≡ true) × (length k ≡ 80)
+    × IsShort t.told (length es) got
 
 -- where a flight may be refused
 abbrev pub IsBreak : Terms → List Element → Break → Type 0
 IsBreak t base NoRead = Unit {0}
-IsBreak t base (ShortRead had got) = (had ≡ length base) × (got < had)
-IsBreak t base (NoDraw es) = Extends es base
-IsBreak t base (NoKeyDraw es w) = Extends es base × (makes_key t es ≡ true) × (length w ≡ 8)
+IsBreak t base (ShortRead had got) = (had ≡ length base) × IsShort t.told had got
+IsBreak t base (NoDraw es) = IsRead t base es
+IsBreak t base (NoKeyDraw es w) = IsRead t base es × (makes_key t es ≡ true) × (length w ≡ 8)
 IsBreak t base (NoAppend es w k) =
-    Extends es base × (makes_key t es ≡ true) × (length w ≡ 8) × (length k ≡ 80)
+    IsRead t base es × (makes_key t es ≡ true) × (length w ≡ 8) × (length k ≡ 80)
 IsBreak t base (ShortAppend es w k got) =
-    (t.opening ≡ false) × Extends es base × (makes_key t es ≡ true) × (length w ≡ 8) × (length k ≡ 80)
-    × (got < length es)
+    (t.opening ≡ false) × IsRead t base es × (makes_key t es ≡ true) × (length w ≡ 8) × (length k ≡ 80)
+    × IsShort t.told (length es) got
 
 abbrev pub IsFlight : Terms → List Element → Flight → Type 0
 IsFlight t base (Flown w f) = (length w ≡ 8) × IsFetch t base f
@@ -175,10 +181,13 @@ abbrev pub last_step : ℕ → Sight → Result RingOf Refusal → Step
 last_step now s (Ok r) = publish_step r
 last_step now s (Err why) = extend_step (extended s.ring now s.want)
 
--- a course, and the publication at its end
+-- a course, and a publication at its end
+abbrev pub publishing : Step → RingOf → Course → Course
+publishing x r d =
+    record d { steps = d.steps ++ x ∷ []; rings = d.rings ++ r ∷ []; published = Some r }
+
 abbrev pub published_after : ℕ → Sight → Result RingOf Refusal → Course → Course
-published_after now s r d =
-    record d { steps = d.steps ++ last_step now s r ∷ []; published = Some (last_ring now s r) }
+published_after now s r d = publishing (last_step now s r) (last_ring now s r) d
 
 abbrev pub flight_course : Terms → Sight → Flight → Course
 flight_course t s x = published_after t.now s (gather_end t x) (gather_course x)

@@ -5,9 +5,10 @@ use Rattle.dp_base.specs.declared.key_id.KeyId.{KeyId}
 use Rattle.key_elements.specs.declared.element.Element.{Element}
 use Rattle.key_elements.specs.Lists.{Agree, IsFirstDifference}
 use Rattle.key_ring.specs.Ring.{RingOf, ring_of, due}
-use Rattle.ring_world.specs.declared.step.Step.TheVariants.{Take, Busy, Give, PrivateRead, ReadFailed, WentBack}
-use Rattle.ring_world.specs.Course.{Course, stepped, led, closed, IsFront, IsCut}
-use Rattle.ring_world.specs.Lists.{longer, IsReadFrom}
+use Rattle.ring_world.specs.declared.step.Step.{Step}
+use Rattle.ring_world.specs.declared.step.Step.TheVariants.{Want, Take, Busy, Give, PrivateRead, ReadFailed, WentBack}
+use Rattle.ring_world.specs.Course.{Course, stepped, looking, led, closed, IsFront, IsCut}
+use Rattle.ring_world.specs.Lists.{longer, IsReadFrom, IsShort}
 use Rattle.ring_world.specs.Flight.{Refusal, StoreFault, Shorter, Forked, Memory, Sight, sight_steps, Terms, Flight, IsFlight, gather_end, flight_course}
 
 -- what a call is asked, by which pass
@@ -39,17 +40,19 @@ is_enough c s = is_enough_for c.terms.now (target c) s
 abbrev pub base : Call → Sight → List Element
 base c s = longer c.own s.ring.list
 
--- what the holder of the turn does: its look is enough, or differs from the own list at a place; or
--- it flies
+-- what the holder of the turn does: no memory is found for its look; that is enough, or differs from
+-- the own list at a place; or it flies
 pub data Turn : Type 0 where
+  Blind : ℕ → Turn
   Rests : Sight → Turn
   Parts : Sight → ℕ → Turn
   Flies : Sight → Flight → Turn
 
--- what a call does after its first look: that is enough; somebody else has the turn, and it is used
--- though it is due; it is too short, and the call reads for itself; the turn is taken; the private
--- read fails, or finds fewer elements; the look differs from the own list at a place
+-- what a call does: no memory is found for its first look; that is enough; somebody else has the
+-- turn, and it is used though it is due; it is too short, and the call reads for itself; the turn is
+-- taken; the private read fails, or finds fewer elements; the look differs from the own list at a place
 pub data Path : Type 0 where
+  Unseen : ℕ → Path
   AtOnce : Sight → Path
   Stale : Sight → ℕ → Path
   Alone : Sight → ℕ → List Element → Path
@@ -62,13 +65,19 @@ pub data Path : Type 0 where
 abbrev pub Sees : Call → Sight → Type 0
 Sees c s = IfSome c.single (λ one. s ≡ one)
 
+-- a pass that is alone is told the want number that it was shown
+abbrev pub Wants : Call → ℕ → Type 0
+Wants c n = IfSome c.single (λ one. n ≡ one.want)
+
 abbrev pub IsTurn : Call → Turn → Type 0
+IsTurn c (Blind n) = Wants c n
 IsTurn c (Rests t) = Sees c t × (is_enough c t ≡ true)
 IsTurn c (Parts t at) = Sees c t × IsFirstDifference c.own t.ring.list at
 IsTurn c (Flies t x) = Sees c t × (is_enough c t ≡ false) × IsFlight c.terms (base c t) x
 
 -- a pass that is alone is never told Busy
 abbrev pub IsPath : Call → Path → Type 0
+IsPath c (Unseen n) = Wants c n
 IsPath c (AtOnce s) = Sees c s × (is_enough c s ≡ true)
 IsPath c (Stale s h) = Sees c s × (c.single ≡ None) × (is_enough c s ≡ false) × (target c ≤ length s.ring.list)
 IsPath c (Alone s h es) =
@@ -76,17 +85,20 @@ IsPath c (Alone s h es) =
 IsPath c (Turned s t) = Sees c s × (is_enough c s ≡ false) × IsTurn c t
 IsPath c (AloneFailed s h) = Sees c s × (c.single ≡ None) × (length s.ring.list < target c)
 IsPath c (AloneShort s h had got) =
-    Sees c s × (c.single ≡ None) × (length s.ring.list < target c) × (had ≡ length (base c s)) × (got < had)
+    Sees c s × (c.single ≡ None) × (length s.ring.list < target c) × (had ≡ length (base c s))
+    × IsShort c.terms.told had got
 IsPath c (Apart s at) = Sees c s × IsFirstDifference c.own s.ring.list at
 
 -- each ring that was looked at agrees with the list seen as far as both reach, but for the one that
 -- is told as a fork
 abbrev pub InLineTurn : Call → Turn → Type 0
+InLineTurn c (Blind n) = Unit {0}
 InLineTurn c (Rests t) = Agree c.own t.ring.list
 InLineTurn c (Parts t at) = Unit {0}
 InLineTurn c (Flies t x) = Agree c.own t.ring.list
 
 abbrev pub InLine : Call → Path → Type 0
+InLine c (Unseen n) = Unit {0}
 InLine c (AtOnce s) = Agree c.own s.ring.list
 InLine c (Stale s h) = Agree c.own s.ring.list
 InLine c (Alone s h es) = Agree c.own s.ring.list
@@ -95,27 +107,39 @@ InLine c (AloneFailed s h) = Agree c.own s.ring.list
 InLine c (AloneShort s h had got) = Agree c.own s.ring.list
 InLine c (Apart s at) = Unit {0}
 
+-- a look, and steps behind it
+abbrev pub sight_course : Sight → List Step → Course
+sight_course s more = looking (sight_steps s ++ more) (s.ring ∷ [])
+
+-- the same in front of a course
+abbrev pub after_sight : Sight → List Step → Course → Course
+after_sight s more = led (sight_steps s ++ more) (s.ring ∷ [])
+
 abbrev pub turn_course : Call → Turn → Course
-turn_course c (Rests t) = stepped (sight_steps t)
-turn_course c (Parts t at) = stepped (sight_steps t)
-turn_course c (Flies t x) = led (sight_steps t) (flight_course c.terms t x)
+turn_course c (Blind n) = stepped (Want n ∷ [])
+turn_course c (Rests t) = sight_course t []
+turn_course c (Parts t at) = sight_course t []
+turn_course c (Flies t x) = after_sight t [] (flight_course c.terms t x)
 
 abbrev pub path_course : Call → Path → Course
-path_course c (AtOnce s) = stepped (sight_steps s)
-path_course c (Stale s h) = stepped (sight_steps s ++ Busy h ∷ [])
-path_course c (Alone s h es) = stepped (sight_steps s ++ Busy h ∷ PrivateRead (length es) ∷ [])
-path_course c (Turned s t) = led (sight_steps s ++ Take ∷ []) (closed (turn_course c t) (Give ∷ []))
-path_course c (AloneFailed s h) = stepped (sight_steps s ++ Busy h ∷ ReadFailed ∷ [])
-path_course c (AloneShort s h had got) = stepped (sight_steps s ++ Busy h ∷ WentBack had got ∷ [])
-path_course c (Apart s at) = stepped (sight_steps s)
+path_course c (Unseen n) = stepped (Want n ∷ [])
+path_course c (AtOnce s) = sight_course s []
+path_course c (Stale s h) = sight_course s (Busy h ∷ [])
+path_course c (Alone s h es) = sight_course s (Busy h ∷ PrivateRead (length es) ∷ [])
+path_course c (Turned s t) = after_sight s (Take ∷ []) (closed (turn_course c t) (Give ∷ []))
+path_course c (AloneFailed s h) = sight_course s (Busy h ∷ ReadFailed ∷ [])
+path_course c (AloneShort s h had got) = sight_course s (Busy h ∷ WentBack had got ∷ [])
+path_course c (Apart s at) = sight_course s []
 
 -- the ring to which a path comes, or its refusal; a private ring has no jitter
 abbrev pub turn_end : Call → Turn → Result RingOf Refusal
+turn_end c (Blind n) = Err Memory
 turn_end c (Rests t) = Ok t.ring
 turn_end c (Parts t at) = Err (Forked at c.own t.ring.list)
 turn_end c (Flies t x) = gather_end c.terms x
 
 abbrev pub path_end : Call → Path → Result RingOf Refusal
+path_end c (Unseen n) = Err Memory
 path_end c (AtOnce s) = Ok s.ring
 path_end c (Stale s h) = Ok s.ring
 path_end c (Alone s h es) = Ok (ring_of es c.terms.now 0)
@@ -128,10 +152,10 @@ path_end c (Apart s at) = Err (Forked at c.own s.ring.list)
 -- a front of one
 pub data TurnGives (c : Call) (result : Result RingOf Refusal) (d : Course) : Type 0 where
   turned : (x : Turn) → IsTurn c x → InLineTurn c x → turn_end c x ≡ result → d ≡ turn_course c x → TurnGives c result d
-  turn_stopped : (x : Turn) → IsTurn c x → result ≡ Err Memory → IsFront d (turn_course c x) → TurnGives c result d
+  turn_stopped : (x : Turn) → IsTurn c x → InLineTurn c x → result ≡ Err Memory → IsFront d (turn_course c x) → TurnGives c result d
 
 -- the course of a lawful path that comes to the ring or the refusal; or, for want of memory, a front
 -- of one, and Give where the turn is held
 pub data PathGives (c : Call) (result : Result RingOf Refusal) (d : Course) : Type 0 where
   went : (p : Path) → IsPath c p → InLine c p → path_end c p ≡ result → d ≡ path_course c p → PathGives c result d
-  stopped : (p : Path) → IsPath c p → result ≡ Err Memory → IsCut d (path_course c p) → PathGives c result d
+  stopped : (p : Path) → IsPath c p → InLine c p → result ≡ Err Memory → IsCut d (path_course c p) → PathGives c result d

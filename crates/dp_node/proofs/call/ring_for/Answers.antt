@@ -12,7 +12,7 @@ use Rattle.dp_node.proofs.call.ring_for.Goals as goal
 
 pub returns-in_err-found-clause-path : goal.returns-in_err-found-clause-path
 returns-in_err-found-clause-path g c =
-    let x = call c.args.at c.args.missing (g.H.HostView.state c.args.host.now) (g.R.Repo.store c.find.new.repo).list in
+    let x = call c.args.at c.args.missing (g.H.HostView.state c.args.host.now) (g.R.Repo.store c.args.repo.now).list (g.R.Repo.store c.find.new.repo).list in
     let p = err_from_is_err_and c.from_residual.result c.from_residual.ensures.1 in
     let d = rw c.requires.room at (c.in_err-found.ensures.did c.args.missing) in
     rw (p.1, p.2, c.in_err-found.ensures.steady.0) (as_kind d (path_failed x (refusal c.in_err-found.field-0.0)))
@@ -20,33 +20,36 @@ returns-in_err-found-clause-path g c =
 pub returns-in_err-ring-clause-path : goal.returns-in_err-ring-clause-path
 returns-in_err-ring-clause-path g c =
     let h = g.H.HostView.state c.args.host.now in
+    let first = (g.R.Repo.store c.args.repo.now).list in
     let told = (g.R.Repo.store c.find.new.repo).list in
     let told' = (g.R.Repo.store c.settle.new.repo).list in
-    let x = call c.args.at c.args.missing h told' in
+    let x = call c.args.at c.args.missing h first told' in
     let d = rw c.requires.room at (c.in_ok-found.ensures.did c.args.missing) in
-    let way = settled_does c.args.at c.args.missing told told' h _ _ _ _ _ _ _ _ _ _ c.in_ok-found.found (Err (refusal c.in_err-ring.field-0.0)) d c.in_err-ring.ensures.did c.in_ok-found.ensures.steady.0 (λ m. ap (λ r. (g.R.Repo.store r).list) (c.in_err-ring.ensures.kept m)) in
+    let way = settled_does c.args.at c.args.missing first told told' h _ _ _ _ _ _ _ _ _ _ c.in_ok-found.found (Err (refusal c.in_err-ring.field-0.0)) d (c.in_err-ring.ensures.did first d.recorded.store.list) c.in_ok-found.ensures.steady.0 (λ m. ap (λ r. (g.R.Repo.store r).list) (c.in_err-ring.ensures.kept first m)) in
     let p = err_from_is_err_and c.from_residual-in_err-ring.result c.from_residual-in_err-ring.ensures.1 in
     rw (p.1, p.2, c.in_err-ring.ensures.steady.0, c.in_ok-found.ensures.steady.0) (as_kind way (call_refused x (refusal c.in_err-ring.field-0.0)))
 
 pub returns-in_err-list-clause-path : goal.returns-in_err-list-clause-path
 returns-in_err-list-clause-path g c =
     let h = g.H.HostView.state c.args.host.now in
+    let first = (g.R.Repo.store c.args.repo.now).list in
     let told = (g.R.Repo.store c.find.new.repo).list in
     let told' = (g.R.Repo.store c.settle.new.repo).list in
-    let x = call c.args.at c.args.missing h told' in
+    let x = call c.args.at c.args.missing h first told' in
     let d = rw c.requires.room at (c.in_ok-found.ensures.did c.args.missing) in
-    let way = settled_does c.args.at c.args.missing told told' h _ _ _ _ _ _ _ _ _ _ c.in_ok-found.found (Ok c.in_ok-ring.ring) d c.in_ok-ring.ensures.did c.in_ok-found.ensures.steady.0 (λ m. ap (λ r. (g.R.Repo.store r).list) (c.in_ok-ring.ensures.kept m)) in
+    let way = settled_does c.args.at c.args.missing first told told' h _ _ _ _ _ _ _ _ _ _ c.in_ok-found.found (Ok c.in_ok-ring.ring) d (c.in_ok-ring.ensures.did first d.recorded.store.list) c.in_ok-found.ensures.steady.0 (λ m. ap (λ r. (g.R.Repo.store r).list) (c.in_ok-ring.ensures.kept first m)) in
     let p = err_from_is_err_and c.from_residual-in_err-list.result c.from_residual-in_err-list.ensures.1 in
     rw (p.1, p.2, c.in_ok-ring.ensures.steady.0, c.in_ok-found.ensures.steady.0) (as_kind way (call_lost x c.in_ok-ring.ring))
 
 pub returns-then-have-at-clause-path : goal.returns-then-have-at-clause-path
 returns-then-have-at-clause-path g c =
     let h = g.H.HostView.state c.args.host.now in
+    let first = (g.R.Repo.store c.args.repo.now).list in
     let told = (g.R.Repo.store c.find.new.repo).list in
     let told' = (g.R.Repo.store c.settle.new.repo).list in
-    let x = call c.args.at c.args.missing h told' in
+    let x = call c.args.at c.args.missing h first told' in
     let d = rw c.requires.room at (c.in_ok-found.ensures.did c.args.missing) in
-    let way = settled_does c.args.at c.args.missing told told' h _ _ _ _ _ _ _ _ _ _ c.in_ok-found.found (Ok c.in_ok-ring.ring) d c.in_ok-ring.ensures.did c.in_ok-found.ensures.steady.0 (λ m. ap (λ r. (g.R.Repo.store r).list) (c.in_ok-ring.ensures.kept m)) in
+    let way = settled_does c.args.at c.args.missing first told told' h _ _ _ _ _ _ _ _ _ _ c.in_ok-found.found (Ok c.in_ok-ring.ring) d (c.in_ok-ring.ensures.did first d.recorded.store.list) c.in_ok-found.ensures.steady.0 (λ m. ap (λ r. (g.R.Repo.store r).list) (c.in_ok-ring.ensures.kept first m)) in
     let ring = c.in_ok-ring.ring in
     let own : (g.H.HostView.state c.keep.new.self).own ≡ ring.list = ap (λ (h : HostState). h.own) c.keep.ensures ∙ c.in_ok-list.ensures ∙ c.list.ensures in
     let front : c.len-have.result ≡ length ring.list = c.len-have.ensures.value ∙ ap length c.list-2.ensures in
@@ -56,11 +59,12 @@ returns-then-have-at-clause-path g c =
 pub returns-clause-path : goal.returns-clause-path
 returns-clause-path g c =
     let h = g.H.HostView.state c.args.host.now in
+    let first = (g.R.Repo.store c.args.repo.now).list in
     let told = (g.R.Repo.store c.find.new.repo).list in
     let told' = (g.R.Repo.store c.settle.new.repo).list in
-    let x = call c.args.at c.args.missing h told' in
+    let x = call c.args.at c.args.missing h first told' in
     let d = rw c.requires.room at (c.in_ok-found.ensures.did c.args.missing) in
-    let way = settled_does c.args.at c.args.missing told told' h _ _ _ _ _ _ _ _ _ _ c.in_ok-found.found (Ok c.in_ok-ring.ring) d c.in_ok-ring.ensures.did c.in_ok-found.ensures.steady.0 (λ m. ap (λ r. (g.R.Repo.store r).list) (c.in_ok-ring.ensures.kept m)) in
+    let way = settled_does c.args.at c.args.missing first told told' h _ _ _ _ _ _ _ _ _ _ c.in_ok-found.found (Ok c.in_ok-ring.ring) d (c.in_ok-ring.ensures.did first d.recorded.store.list) c.in_ok-found.ensures.steady.0 (λ m. ap (λ r. (g.R.Repo.store r).list) (c.in_ok-ring.ensures.kept first m)) in
     let ring = c.in_ok-ring.ring in
     let own : (g.H.HostView.state c.keep.new.self).own ≡ ring.list = ap (λ (h : HostState). h.own) c.keep.ensures ∙ c.in_ok-list.ensures ∙ c.list.ensures in
     let front : c.len-have.result ≡ length ring.list = c.len-have.ensures.value ∙ ap length c.list-2.ensures in

@@ -1,4 +1,4 @@
-use Rattle.std.proofs.Common.{false, refl, subst}
+use Rattle.std.proofs.Common.{[], ◌∷◌, false, refl, subst}
 use Rattle.std.proofs.lemmas.Result.{err_from_is_err_and}
 use Rattle.ring_world.specs.Lists.{longer}
 use Rattle.ring_world.specs.Flight.{sight_steps, FlightGives}
@@ -12,16 +12,16 @@ use Rattle.dp_node.proofs.HostSteps.{did_sight, second_refused}
 use Rattle.dp_node.proofs.settle.fly_again.Goals as goal
 
 pub returns-in_err-sight-clause-did : goal.returns-in_err-sight-clause-did
-returns-in_err-sight-clause-did g c = λ missing.
+returns-in_err-sight-clause-did g c = λ missing before since.
     let p = err_from_is_err_and c.from_residual.result c.from_residual.ensures.1 in
-    rw (p.1, p.2) (second_refused (call c.args.at missing (g.H.HostView.state c.args.host.now) (g.R.Repo.store c.args.repo.now).list) _ _ _ _ _ _ refl refl c.in_err-sight.field-0.0 c.in_err-sight.ensures.err)
+    rw (p.1, p.2) (second_refused (call c.args.at missing (g.H.HostView.state c.args.host.now) before (g.R.Repo.store c.args.repo.now).list) _ _ _ _ _ _ refl refl c.in_err-sight.field-0.0 c.in_err-sight.ensures.err)
 
 pub returns-clause-did : goal.returns-clause-did
-returns-clause-did g c = λ missing.
+returns-clause-did g c = λ missing before since.
     let s = sight_of c.in_ok-sight.sight in
     let h = g.H.HostView.state c.args.host.now in
     let told = (g.R.Repo.store c.flight.new.repo).list in
-    let x = call c.args.at missing h told in
+    let x = call c.args.at missing h before told in
     let r = seen c.flight.result in
-    after (sight_steps s) (did_sight _ _ _ _ _ _ s c.in_ok-sight.ensures.steps c.in_ok-sight.ensures.shows.0 c.in_ok-sight.ensures.host) c.flight.ensures.did
-    (λ d p. second_flies x s c.in_ok-sight.ensures.shows.1 r c.in_ok-sight.ensures.in_line d (subst (λ (z : HostState). FlightGives (terms c.args.at.now z.facts.options false told) (longer z.own s.ring.list) s r d) c.in_ok-sight.ensures.host p))
+    after (sight_steps s) (s.ring ∷ []) (did_sight _ _ _ _ _ _ s c.in_ok-sight.ensures.steps c.in_ok-sight.ensures.shows c.in_ok-sight.ensures.host) (c.flight.ensures.did before since)
+    (λ d p. second_flies x s c.in_ok-sight.ensures.shows.2 r c.in_ok-sight.ensures.in_line d (subst (λ (z : HostState). FlightGives (terms c.args.at.now z.facts.options false before told) (longer z.own s.ring.list) s r d) c.in_ok-sight.ensures.host p))

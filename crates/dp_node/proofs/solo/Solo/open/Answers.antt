@@ -5,7 +5,7 @@ use Rattle.ring_world.specs.Course.{idle}
 use Rattle.ring_world.specs.Flight.{Memory, NoRead, Broken, cut}
 use Rattle.dp_node.specs.Gather.{refusal}
 use Rattle.dp_node.specs.Opening.{first_facts}
-use Rattle.dp_node.proofs.Books.{exactly, nothing}
+use Rattle.dp_node.proofs.Books.{exactly, nothing, Grows-refl}
 use Rattle.dp_node.proofs.Fronts.{front}
 use Rattle.dp_node.proofs.Openings.{opens_refused}
 use Rattle.dp_node.proofs.solo.Solo.open.Goals as goal
@@ -18,7 +18,7 @@ returns-in_err-steps g c =
         Err Memory,
         [],
         rw (p.1, p.2) tt,
-        λ host. exactly idle (nothing [] host _ _) (cut (Broken NoRead) tt refl (front idle [] (ReadFailed ∷ []) [] None 0 refl)),
+        λ host. exactly idle (nothing [] host _ _) (cut (Broken NoRead) tt refl (front idle [] (ReadFailed ∷ []) [] [] None 0 refl)),
       );
     }
 
@@ -30,7 +30,7 @@ returns-in_err-over-in-Ok g c =
         Ok c.in-Ok.ring,
         c.gather.new.steps,
         rw (p.1, p.2) tt,
-        λ host. rw (c.in_ok-steps.ensures, c.empty-base.ensures) at (c.in-Ok.ensures.did host),
+        λ host. rw (c.in_ok-steps.ensures, c.empty-base.ensures) at (c.in-Ok.ensures.did host (g.R.Repo.store c.args.repo.now).list (Grows-refl _)),
       );
     }
 
@@ -40,7 +40,7 @@ returns-in-Ok g c = record {
     Ok c.in-Ok.ring,
     c.gather.new.steps,
     (c.in-Ok.ring, refl, c.in_ok-over-in-Ok.ensures),
-    λ host. rw (c.in_ok-steps.ensures, c.empty-base.ensures) at (c.in-Ok.ensures.did host),
+    λ host. rw (c.in_ok-steps.ensures, c.empty-base.ensures) at (c.in-Ok.ensures.did host (g.R.Repo.store c.args.repo.now).list (Grows-refl _)),
   );
 }
 
@@ -50,6 +50,6 @@ returns g c = record {
     Err (refusal c.in-Err.why),
     c.gather.new.steps,
     rw c.refused_as.ensures (opens_refused (first_facts c.args.now c.args.options) c.in-Err.why),
-    λ host. rw (c.in_ok-steps.ensures, c.empty-base.ensures) at (c.in-Err.ensures.did host),
+    λ host. rw (c.in_ok-steps.ensures, c.empty-base.ensures) at (c.in-Err.ensures.did host (g.R.Repo.store c.args.repo.now).list (Grows-refl _)),
   );
 }

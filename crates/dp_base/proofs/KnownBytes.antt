@@ -1,9 +1,9 @@
 -- Reads and writes, one after the other, and what they do to known bytes.
-use Rattle.std.proofs.Common.{◌≡◌, ℕ, ◌+◌, ◌≤◌, List, [], ◌++◌, length, take, drop, Option, Some, None, Result, Ok, Err, refl, sym, ap, subst, ◌∙◌, append_assoc, arith}
+use Rattle.std.proofs.Common.{◌≡◌, ℕ, ◌+◌, ◌<◌, ◌≤◌, List, [], ◌++◌, length, take, drop, Option, Some, None, Result, Ok, Err, refl, sym, ap, subst, ◌∙◌, append_assoc, arith}
 use Rattle.std.proofs.Math.Seq.{take-add}
-use Rattle.std.proofs.lemmas.List.{take_at, drop_at, append-nil, take_all, drop_all}
+use Rattle.std.proofs.lemmas.List.{length-append, take_at, drop_at, append-nil, take_all, drop_all}
 use Rattle.std.specs.Io.KnownBytes.{Keeps, Consumes, Appends, IsAtEnd, ReadConsumes, WriteAppends}
-use Rattle.dp_base.specs.Transfer.{TakesFront, TakesAtMost, Writes, WritesFront}
+use Rattle.dp_base.specs.Transfer.{TakesFront, TakesAtMost, TakesFewer, Writes, WritesFront}
 
 pub Keeps-same : (a : Option (List ℕ)) → Keeps a a
 Keeps-same None = tt
@@ -71,6 +71,16 @@ TakesAtMost-consumes None b xs n le read = tt
 TakesAtMost-consumes (Some left) None xs n le read = absurd read
 TakesAtMost-consumes (Some left) (Some rest) xs n le read =
     (length xs, le, ap Some (sym (ap (drop (length xs)) read ∙ drop_at xs rest (length xs) refl)))
+
+pub TakesFewer-consumes : (a b : Option (List ℕ)) (xs : List ℕ) (n : ℕ) → length xs < n → Consumes a b xs → TakesFewer n a b
+TakesFewer-consumes None b xs n less read = tt
+TakesFewer-consumes (Some left) None xs n less read = absurd read
+TakesFewer-consumes (Some left) (Some rest) xs n less read = (
+  length xs,
+  less,
+  omega (arith, ap (λ (t : List ℕ). length t) read, length-append xs rest),
+  ap Some (sym (ap (drop (length xs)) read ∙ drop_at xs rest (length xs) refl)),
+)
 
 pub TakesAtMost-front : (a b : Option (List ℕ)) (xs : List ℕ) (n : ℕ) → TakesFront n a b xs → TakesAtMost n a b
 TakesAtMost-front None b xs n front = tt

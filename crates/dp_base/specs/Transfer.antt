@@ -1,5 +1,5 @@
 -- What several reads or writes moved. Nothing is said of bytes that aren't told.
-use Rattle.std.specs.Prelude.{◌≡◌, ℕ, ◌≤◌, List, ◌++◌, length, take, drop, Option, Some, None}
+use Rattle.std.specs.Prelude.{◌≡◌, ℕ, ◌<◌, ◌≤◌, List, ◌++◌, length, take, drop, Option, Some, None}
 
 -- the first n of the bytes left were taken, or all where they are fewer
 abbrev pub TakesFront : ℕ → Option (List ℕ) → Option (List ℕ) → List ℕ → Type 0
@@ -10,6 +10,11 @@ TakesFront n (Some left) after bytes = (bytes ≡ take n left) × (after ≡ Som
 abbrev pub TakesAtMost : ℕ → Option (List ℕ) → Option (List ℕ) → Type 0
 TakesAtMost n None after = Unit {0}
 TakesAtMost n (Some left) after = (k : ℕ) × (k ≤ n) × (after ≡ Some (drop k left))
+
+-- fewer than n bytes were taken, from the front of those left
+abbrev pub TakesFewer : ℕ → Option (List ℕ) → Option (List ℕ) → Type 0
+TakesFewer n None after = Unit {0}
+TakesFewer n (Some left) after = (k : ℕ) × (k < n) × (k ≤ length left) × (after ≡ Some (drop k left))
 
 -- the bytes were written behind those written before
 abbrev pub Writes : Option (List ℕ) → Option (List ℕ) → List ℕ → Type 0

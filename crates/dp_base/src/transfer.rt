@@ -2,18 +2,20 @@
 
 ghost use Rattle.std.specs.Prelude.{◌≡◌, ◌≤◌, IfOk, OnOk, OnErr, length, take};
 ghost use Rattle.dp_base.specs.Counts.{one_more};
-ghost use Rattle.dp_base.specs.Transfer.{TakesFront, TakesAtMost, Writes, WritesFront};
+ghost use Rattle.dp_base.specs.Transfer.{TakesFront, TakesAtMost, TakesFewer, Writes, WritesFront};
 
 use crate::sink::Sink;
 use crate::source::{Failed, Source};
 
 /// Reads until the buffer is full or the input ends, and answers how many bytes were read. After a
-/// failure fewer may be gone from the input.
+/// failure fewer than the buffer has room for are gone from the input.
 pub fn read_full<I: Source>(input: &mut I, buffer: &mut [u8]) -> Result<usize, Failed>
     ensures bound { IfOk result (λ n. n ≤ length buffer.new) }
     ensures value { IfOk result (λ n.
         TakesFront (length buffer.new) (I.left input.old) (I.left input.new) (take n buffer.new)) }
     ensures takes { TakesAtMost (length buffer.new) (I.left input.old) (I.left input.new) }
+    ensures fewer { OnErr result
+        (TakesFewer (length buffer.new) (I.left input.old) (I.left input.new)) }
     ensures no_fault { OnOk result (I.faults input.new ≡ I.faults input.old) }
     ensures fault { OnErr result (I.faults input.new ≡ one_more (I.faults input.old)) }
 {

@@ -1,12 +1,12 @@
 -- Draws, one after the other.
-use Rattle.std.proofs.Common.{◌≡◌, ℕ, zero, suc, ◌+◌, ◌-◌, ◌^◌, ◌<◌, ◌≤◌, min, nat_le, if◌then◌else◌, List, [], ◌∷◌, ◌++◌, length, take, Option, Some, None, refl, sym, ap, subst, ◌∙◌, append_assoc, zero-add, add-zero, ⊎_elim, arith}
+use Rattle.std.proofs.Common.{◌≡◌, ℕ, zero, suc, ◌+◌, ◌-◌, ◌^◌, ◌<◌, ◌≤◌, min, nat_le, if◌then◌else◌, List, [], ◌∷◌, ◌++◌, length, map, take, Option, Some, None, refl, sym, ap, subst, ◌∙◌, append_assoc, zero-add, add-zero, ⊎_elim, arith}
 use Rattle.std.proofs.lemmas.Bool.{le-leb, lt-leb}
 use Rattle.std.proofs.lemmas.Bool.Decides.{leb_tells}
 use Rattle.std.proofs.lemmas.List.{length-append, length-take-le, append-nil, take_at, drop-drop}
 use Rattle.std.proofs.Math.Seq.{take-add}
 use Rattle.dp_base.specs.Counts.{more}
 use Rattle.dp_base.specs.declared.draw.TheConstants.{MAX_TAPE}
-use Rattle.dp_base.specs.Draws.{DrawState, Comes, gave, tape, Draws}
+use Rattle.dp_base.specs.Draws.{DrawState, Lender, Comes, gave, gave_by, tape, Draws}
 
 more-some : (k n : ℕ) → 0 < k → more k n ≡ min (n + k) (2 ^ 64 - 1)
 more-some zero n some = absurd (omega arith)
@@ -72,9 +72,23 @@ Comes-nil : (told : Option (List ℕ)) → Comes told told []
 Comes-nil None = refl
 Comes-nil (Some coming) = (refl, refl)
 
+lender-eq : (k : Lender) (given : Option (List ℕ)) → given ≡ k.given → record { given = given; loan = k.loan } ≡ k
+lender-eq k given e = ap (λ (g : Option (List ℕ)). record { given = g; loan = k.loan }) e
+
+-- lenders that gave nothing, and that gave twice
+lenders-nil : (ls : List Lender) → ls ≡ map (gave_by []) ls
+lenders-nil [] = refl
+lenders-nil (l ∷ ls) = ap (λ (x : Lender). x ∷ ls) (sym (lender-eq l (gave l.given []) (gave-nil l.given))) ∙ ap (λ (xs : List Lender). gave_by [] l ∷ xs) (lenders-nil ls)
+
+lenders-both : (a b : List ℕ) (ls : List Lender) → map (gave_by b) (map (gave_by a) ls) ≡ map (gave_by (a ++ b)) ls
+lenders-both a b [] = refl
+lenders-both a b (l ∷ ls) =
+    ap (λ (g : Option (List ℕ)). record { given = g; loan = l.loan } ∷ map (gave_by b) (map (gave_by a) ls)) (gave-gave l.given a b)
+    ∙ ap (λ (xs : List Lender). gave_by (a ++ b) l ∷ xs) (lenders-both a b ls)
+
 -- nothing was drawn
 pub Draws-none : (s : DrawState) → Draws 0 [] s s
-Draws-none s = record { coming = Comes-nil s.coming; given = sym (gave-nil s.given); faults = refl; loan = refl }
+Draws-none s = record { coming = Comes-nil s.coming; given = sym (gave-nil s.given); faults = refl; loan = refl; lenders = lenders-nil s.lenders }
 
 -- two draws are one of the bytes of both
 pub Draws-both : (j k : ℕ) (a b : List ℕ) (s t u : DrawState) → Draws j a s t → Draws k b t u → Draws (j + k) (a ++ b) s u
@@ -83,4 +97,5 @@ Draws-both j k a b s t u first second = record {
   given = second.given ∙ ap (λ (g : Option (List ℕ)). gave g b) first.given ∙ gave-gave s.given a b;
   faults = second.faults ∙ ap (more k) first.faults ∙ more-more j k s.faults;
   loan = second.loan ∙ first.loan;
+  lenders = second.lenders ∙ ap (map (gave_by b)) first.lenders ∙ lenders-both a b s.lenders;
 }

@@ -1,7 +1,7 @@
 //! Draws from memory, and from a stream of ChaCha20 (RFC 8439, with 64 bits of counter and of
 //! stream number).
 
-ghost use Rattle.std.specs.Prelude.{◌≡◌, ◌<◌, ◌≤◌, take, length, None, Some, IsTrue, IsFalse, IsErr, OnOk, OnErr, IsOk};
+ghost use Rattle.std.specs.Prelude.{◌≡◌, ◌<◌, ◌≤◌, take, length, [], None, Some, IsTrue, IsFalse, IsErr, OnOk, OnErr, IsOk};
 ghost use Rattle.rand_core.specs.Steps.{fill_via_u32};
 ghost use Rattle.rand_chacha.specs.ChaCha.{key_of, next_word};
 ghost use Rattle.dp_base.specs.Streams.{fails, draw_leaves, draw_failed};
@@ -66,6 +66,7 @@ impl Draw for MemDraw {
       given = None;
       faults = d.faults;
       loan = None;
+      lenders = [];
     } };
 
     fn fill(&mut self, out: &mut [u8]) -> Result<(), Failed>
@@ -121,7 +122,7 @@ impl ChaChaDraw {
 }
 
 impl Draw for ChaChaDraw {
-    ghost draws = { λ _. record { coming = None; given = None; faults = 0; loan = None } };
+    ghost draws = { λ _. record { coming = None; given = None; faults = 0; loan = None; lenders = [] } };
 
     fn fill(&mut self, out: &mut [u8]) -> Result<(), Failed>
         ensures ok { IsOk result }

@@ -1,6 +1,6 @@
 //! The clock and the random bytes of the system. They tell nothing.
 
-ghost use Rattle.std.specs.Prelude.{◌≡◌, None};
+ghost use Rattle.std.specs.Prelude.{◌≡◌, [], None};
 
 use crate::clock::Clock;
 use crate::draw::Draw;
@@ -77,7 +77,7 @@ fn system_key(rt: &HostRuntime) -> Result<[u8; 32], Failed> {
 }
 
 impl Draw for OsDraw<'_> {
-    ghost draws = { λ d. record { coming = None; given = None; faults = d.faults; loan = None } };
+    ghost draws = { λ d. record { coming = None; given = None; faults = d.faults; loan = None; lenders = [] } };
 
     fn fill(&mut self, out: &mut [u8]) -> Result<(), Failed> {
         if self.stream.is_none() {

@@ -102,4 +102,4 @@ result_not_dates a (Err why) own d p e = place_not_dates a why own d p (cc e)
 
 -- a draw of which nothing is told
 pub no_draws : DrawState
-no_draws = record { coming = None; given = None; faults = 0; loan = None }
+no_draws = record { coming = None; given = None; faults = 0; loan = None; lenders = [] }

@@ -137,7 +137,7 @@ enough_reply b behind answer e = rw e refl
 
 module _ (app : List ℕ) (now : ℕ) (p : Request) (old new : Books) (between : DrawState) (needs : needs_ring p ≡ true) (good : HasBadDates p now → ⊥) where
   abbrev Call : Result RingOf Refusal → Type 0
-  Call r = Does (CallPath (call (asking p now) (missing_of p) old.host new.store.list) r new.host.own) old (record new { draws = between })
+  Call r = Does (CallPath (call (asking p now) (missing_of p) old.host old.store.list new.store.list) r new.host.own) old (record new { draws = between })
 
   -- want of memory
   unserved : (r : Result Response Memory) (drawn : List ℕ) → IsErr r → Serves (Ok p) now used.NoMemory drawn old new → Served app (Ok p) now r drawn old new
@@ -148,7 +148,7 @@ module _ (app : List ℕ) (now : ℕ) (p : Request) (old new : Books) (between :
   pub ring_given : (ring : RingOf) (r : Result Response Memory) (x : Call (Ok ring)) → need_of (Ok p) ≤ length ring.list → Responds app now p ring r between new.draws
       → (drawn : List ℕ) × Served app (Ok p) now r drawn old new
   ring_given ring r x enough (by.answered bytes n draws is) =
-      let own = own_by_ring (call (asking p now) (missing_of p) old.host new.store.list) ring new.host.own x.course x.is in
+      let own = own_by_ring (call (asking p now) (missing_of p) old.host old.store.list new.store.list) ring new.host.own x.course x.is in
       let drawn = x.course.drawn ++ bytes in
       let u = used.Ring (length ring.list) ring.made_at in
       let well : Serves (Ok p) now u drawn old new = by_ring p refl needs good (Ok ring) between x bytes refl (answered ring refl refl n draws) in

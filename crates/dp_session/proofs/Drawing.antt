@@ -1,8 +1,8 @@
 -- What a request draws: few bytes, and those that a tape tells.
-use Rattle.std.proofs.Common.{◌≡◌, ℕ, ◌+◌, ◌-◌, ◌≤◌, Bool, true, false, not, ◌&&◌, if◌then◌else◌, nat_lt, List, [], ◌∷◌, length, Option, Some, None, IfSome, Result, Ok, Err, refl, sym, ap, subst, ◌∙◌, arith}
+use Rattle.std.proofs.Common.{◌≡◌, ℕ, ◌+◌, ◌-◌, ◌≤◌, Bool, true, false, not, ◌&&◌, if◌then◌else◌, nat_lt, List, [], ◌∷◌, length, map, Option, Some, None, IfSome, Result, Ok, Err, refl, sym, ap, subst, ◌∙◌, arith}
 use Rattle.std.proofs.lemmas.List.{length-append}
 use Rattle.std.specs.Borrow.{GName}
-use Rattle.dp_base.specs.Draws.{DrawState, Draws, gave, taped}
+use Rattle.dp_base.specs.Draws.{DrawState, Lender, Draws, gave, gave_by, taped}
 use Rattle.dp_base.specs.declared.want.Memory.{Memory}
 use Rattle.dp_base.proofs.Draws.{Draws-none, Draws-both, gave-short}
 use Rattle.dp_base.specs.declared.alg.Alg.{Alg}
@@ -19,7 +19,7 @@ use Rattle.ring_world.specs.declared.step.Step.{Step}
 use Rattle.ring_world.specs.declared.step.Step.TheVariants.{Give, Appended, AppendFull, AppendFailed, WentBack}
 use Rattle.ring_world.specs.Course.{Course, closed, drawn_count, holds, IsFront}
 use Rattle.ring_world.specs.Flight.{Refusal, Flown, Broken, Plain, Keyed, Filled, Shrunk, NoRead, ShortRead, NoDraw, NoKeyDraw, NoAppend, ShortAppend}
-use Rattle.ring_world.specs.Path.{Call, Path, AtOnce, Stale, Alone, Turned, AloneFailed, AloneShort, Apart, Turn, Rests, Parts, Flies, path_course, turn_course}
+use Rattle.ring_world.specs.Path.{Call, Path, Unseen, AtOnce, Stale, Alone, Turned, AloneFailed, AloneShort, Apart, Turn, Blind, Rests, Parts, Flies, path_course, turn_course}
 use Rattle.ring_world.specs.Settle.{Settle, Keeps, Stays, Again, IsSettled, any_reads, lacks_named, settle_course}
 use Rattle.ring_world.specs.declared.step.TheConstants.{SECOND_TRY_SPAN}
 use Rattle.ring_world.specs.Way as way
@@ -36,12 +36,14 @@ use Rattle.dp_session.specs.declared.response.Response.{Response}
 use Rattle.dp_session.specs.declared.trace.Used.{Used}
 use Rattle.dp_session.specs.declared.trace.Used.TheVariants as used
 use Rattle.dp_session.specs.Needs.{sealed_len}
-use Rattle.dp_session.specs.Serving.{Serves, unread, unstarted, misdated, by_ring, by_place, Follows, refused, answered, undrawn, stopped, lost, unheard, Served, telling}
+use Rattle.dp_session.specs.Serving.{Serves, unread, unstarted, misdated, by_ring, by_place, Follows, refused, answered, undrawn, stopped, lost, unheard, Served}
 
 path_drawn : (c : Call) (p : Path) → drawn_count (path_course c p).steps ≤ 88
+path_drawn c (Unseen n) = omega arith
 path_drawn c (AtOnce s) = omega arith
 path_drawn c (Stale s h) = omega arith
 path_drawn c (Alone s h es) = omega arith
+path_drawn c (Turned s (Blind n)) = omega arith
 path_drawn c (Turned s (Rests t)) = omega arith
 path_drawn c (Turned s (Parts t at)) = omega arith
 path_drawn c (Turned s (Flies t (Flown w (Plain es)))) = omega arith
@@ -59,6 +61,7 @@ path_drawn c (AloneShort s h had got) = omega arith
 path_drawn c (Apart s at) = omega arith
 
 turn_drawn : (c : Call) (t : Turn) → drawn_count (turn_course c t).steps ≤ 88
+turn_drawn c (Blind n) = omega arith
 turn_drawn c (Rests t) = omega arith
 turn_drawn c (Parts t at) = omega arith
 turn_drawn c (Flies t (Flown w (Plain es))) = omega arith
@@ -74,9 +77,11 @@ turn_drawn c (Flies t (Broken (ShortAppend es w k got))) = omega arith
 
 -- a path that read nothing drew nothing
 unread_drawn : (c : Call) (p : Path) → any_reads (path_course c p).steps ≡ false → drawn_count (path_course c p).steps ≡ 0
+unread_drawn c (Unseen n) e = omega arith
 unread_drawn c (AtOnce s) e = omega arith
 unread_drawn c (Stale s h) e = omega arith
 unread_drawn c (Alone s h es) e = omega arith
+unread_drawn c (Turned s (Blind n)) e = omega arith
 unread_drawn c (Turned s (Rests t)) e = omega arith
 unread_drawn c (Turned s (Parts t at)) e = omega arith
 unread_drawn c (Turned s (Flies t (Flown w (Plain es)))) e = cc
@@ -128,7 +133,7 @@ given_back_drawn d false = omega arith
 call_drawn : (c : Call) (r : Result RingOf Refusal) (own : List Element) (d : Course) → CallPath c r own d → drawn_count d.steps ≤ 88
 call_drawn c r own d (way.complete w is line e o s) =
     omega (arith, ap (λ (x : Course). drawn_count x.steps) s, drawn_count-append (way_course c w).steps (way.answer_steps (way_end c w)), answer_drawn (way_end c w), way_drawn c w is)
-call_drawn c r own d (way.cut_off w is e o k) =
+call_drawn c r own d (way.cut_off w is line e o k) =
     omega (arith, ap (λ (x : Course). drawn_count x.steps) k.given, given_back_drawn k.front (holds false k.front.steps), front_drawn k.front (way_course c w) k.is, way_drawn c w is)
 
 draw_steps_drawn : (b : Bool) → drawn_count (placing.draw_steps b) ≤ 80
@@ -221,53 +226,75 @@ module _ (q : Result Request BadRequest) (now : ℕ) (u : Used) (drawn : List �
       omega (arith, ap length d, length-append x.course.drawn bytes, x.recorded.drawn, call_drawn _ r new.host.own x.course x.is, follows_few p r u bytes between new.draws f)
   few_drawn (by_place p e good a asks r x d v) = omega (arith, ap length d, x.recorded.drawn, place_drawn a r new.host.own x.course x.is)
 
--- without the loan that the draw stands on
-abbrev off : DrawState → DrawState
-off d = record { coming = d.coming; given = d.given; faults = d.faults; loan = None }
+-- the draw that was lent to this one
+abbrev lent_by : DrawState → List Lender → DrawState
+lent_by d [] = d
+lent_by d (l ∷ ls) = record { coming = d.coming; given = l.given; faults = d.faults; loan = l.loan; lenders = ls }
 
-abbrev unloaned : Books → Books
-unloaned b = record b { draws = off b.draws }
+abbrev lent : DrawState → DrawState
+lent d = lent_by d d.lenders
 
-draws_off : (k : ℕ) (bytes : List ℕ) (old new : DrawState) → Draws k bytes old new → Draws k bytes (off old) (off new)
-draws_off k bytes old new d = record { coming = d.coming; given = d.given; faults = d.faults; loan = refl }
+abbrev unlent : Books → Books
+unlent b = record b { draws = lent b.draws }
 
-follows_off : (p : Request) (r : Result RingOf Refusal) (u : Used) (bytes : List ℕ) (old new : DrawState) → Follows p r u bytes old new → Follows p r u bytes (off old) (off new)
-follows_off p r u bytes old new (refused why e k v b s) = refused why e k v b (ap off s)
-follows_off p r u bytes old new (answered ring e v n s) = answered ring e v n (draws_off 0 bytes old new s)
-follows_off p r u bytes old new (undrawn ring e k v b s) = undrawn ring e k v b (draws_off 1 [] old new s)
-follows_off p r u bytes old new (stopped v b s) = stopped v b (ap off s)
-follows_off p r u bytes old new (lost ring e v n s) = lost ring e v n (draws_off 0 bytes old new s)
-follows_off p r u bytes old new (unheard ring e k v b s) = unheard ring e k v b (draws_off 1 [] old new s)
+lent_draws : (k : ℕ) (bytes : List ℕ) (old new : DrawState) (ls ms : List Lender) → ms ≡ map (gave_by bytes) ls → Draws k bytes old new → Draws k bytes (lent_by old ls) (lent_by new ms)
+lent_draws k bytes old new [] [] e d = d
+lent_draws k bytes old new [] (m ∷ ms) e d = cc
+lent_draws k bytes old new (l ∷ ls) [] e d = cc
+lent_draws k bytes old new (l ∷ ls) (m ∷ ms) e d =
+    let first : m ≡ gave_by bytes l = cc in
+    let rest : ms ≡ map (gave_by bytes) ls = cc in
+    record {
+      coming = d.coming;
+      given = ap (λ (x : Lender). x.given) first;
+      faults = d.faults;
+      loan = ap (λ (x : Lender). x.loan) first;
+      lenders = rest;
+    }
 
-off_loan : {P : Course → Type 0} {a b : Books} → Does P a b → Does P (unloaned a) (unloaned b)
-off_loan x = record {
+draws_lent : (k : ℕ) (bytes : List ℕ) (old new : DrawState) → Draws k bytes old new → Draws k bytes (lent old) (lent new)
+draws_lent k bytes old new d = lent_draws k bytes old new old.lenders new.lenders d.lenders d
+
+follows_lent : (p : Request) (r : Result RingOf Refusal) (u : Used) (bytes : List ℕ) (old new : DrawState) → Follows p r u bytes old new → Follows p r u bytes (lent old) (lent new)
+follows_lent p r u bytes old new (refused why e k v b s) = refused why e k v b (ap lent s)
+follows_lent p r u bytes old new (answered ring e v n s) = answered ring e v n (draws_lent 0 bytes old new s)
+follows_lent p r u bytes old new (undrawn ring e k v b s) = undrawn ring e k v b (draws_lent 1 [] old new s)
+follows_lent p r u bytes old new (stopped v b s) = stopped v b (ap lent s)
+follows_lent p r u bytes old new (lost ring e v n s) = lost ring e v n (draws_lent 0 bytes old new s)
+follows_lent p r u bytes old new (unheard ring e k v b s) = unheard ring e k v b (draws_lent 1 [] old new s)
+
+does_lent : {P : Course → Type 0} {a b : Books} → Does P a b → Does P (unlent a) (unlent b)
+does_lent {P} {a} {b} x = record {
   course = x.course;
   recorded = record {
     steps = x.recorded.steps;
     acts = x.recorded.acts;
     front = x.recorded.front;
+    looked = x.recorded.looked;
+    rings = x.recorded.rings;
+    line = x.recorded.line;
     floor = x.recorded.floor;
     facts = x.recorded.facts;
     single = x.recorded.single;
     store = x.recorded.store;
-    draws = record { coming = x.recorded.draws.coming; given = x.recorded.draws.given; faults = x.recorded.draws.faults; loan = refl };
+    draws = draws_lent (draws_failed x.course.steps) x.course.drawn a.draws b.draws x.recorded.draws;
     drawn = x.recorded.drawn;
     published = x.recorded.published;
   };
   is = x.is;
 }
 
-serves_off_loan : (q : Result Request BadRequest) (now : ℕ) (u : Used) (drawn : List ℕ) (old new : Books) → Serves q now u drawn old new → Serves q now u drawn (unloaned old) (unloaned new)
-unfolding off_loan
-serves_off_loan q now u drawn old new (unread why e v d same) = unread why e v d (ap unloaned same)
-serves_off_loan q now u drawn old new (unstarted v d same) = unstarted v d (ap unloaned same)
-serves_off_loan q now u drawn old new (misdated p e bad v d same) = misdated p e bad v d (ap unloaned same)
-serves_off_loan q now u drawn old new (by_ring p e needs good r between x bytes d f) = by_ring p e needs good r (off between) (off_loan x) bytes d (follows_off p r u bytes between new.draws f)
-serves_off_loan q now u drawn old new (by_place p e good a asks r x d v) = by_place p e good a asks r (off_loan x) d v
+serves_lent : (q : Result Request BadRequest) (now : ℕ) (u : Used) (drawn : List ℕ) (old new : Books) → Serves q now u drawn old new → Serves q now u drawn (unlent old) (unlent new)
+unfolding does_lent
+serves_lent q now u drawn old new (unread why e v d same) = unread why e v d (ap unlent same)
+serves_lent q now u drawn old new (unstarted v d same) = unstarted v d (ap unlent same)
+serves_lent q now u drawn old new (misdated p e bad v d same) = misdated p e bad v d (ap unlent same)
+serves_lent q now u drawn old new (by_ring p e needs good r between x bytes d f) = by_ring p e needs good r (lent between) (does_lent x) bytes d (follows_lent p r u bytes between new.draws f)
+serves_lent q now u drawn old new (by_place p e good a asks r x d v) = by_place p e good a asks r (does_lent x) d v
 
-served_off_loan : (app : List ℕ) (q : Result Request BadRequest) (now : ℕ) (r : Result Response Memory) (drawn : List ℕ) (old new : Books) → Served app q now r drawn old new → Served app q now r drawn (unloaned old) (unloaned new)
-served_off_loan app q now (Ok a) drawn old new s = (serves_off_loan q now a.used drawn old new s.0, s.1, s.2)
-served_off_loan app q now (Err w) drawn old new s = serves_off_loan q now used.NoMemory drawn old new s
+served_lent : (app : List ℕ) (q : Result Request BadRequest) (now : ℕ) (r : Result Response Memory) (drawn : List ℕ) (old new : Books) → Served app q now r drawn old new → Served app q now r drawn (unlent old) (unlent new)
+served_lent app q now (Ok a) drawn old new s = (serves_lent q now a.used drawn old new s.0, s.1, s.2)
+served_lent app q now (Err w) drawn old new s = serves_lent q now used.NoMemory drawn old new s
 
 some_serves : (app : List ℕ) (q : Result Request BadRequest) (now : ℕ) (r : Result Response Memory) (drawn : List ℕ) (old new : Books) → Served app q now r drawn old new → (u : Used) × Serves q now u drawn old new
 some_serves app q now (Ok a) drawn old new s = (a.used, s.0)
@@ -287,15 +314,14 @@ module _ (app : List ℕ) (q : Result Request BadRequest) (now : ℕ) (r : Resul
       let given : new.draws.given ≡ Some drawn = d.1.given ∙ ap (λ (g : Option (List ℕ)). gave g drawn) none ∙ gave-short [] drawn (omega (arith, few)) in
       (given, same_told new.draws.given bytes drawn given told, few)
 
--- a request that was served over a tape, as it is seen without the tape
+-- a request that was served over a tape, as it is seen of the draw that was lent to the tape
 pub told_served : (app : List ℕ) (q : Result Request BadRequest) (now : ℕ) (r : Result Response Memory) (drawn bytes : List ℕ) (s : List Step) (h h' : HostState) (t t' : Store) (d0 d1 d d' e' : DrawState) (n n' : GName) (tape : Option (List ℕ))
     → d0 ≡ taped d n (Some []) → d1 ≡ taped d' n' tape → e' ≡ d' → Served app q now r drawn (books [] h t d0) (books s h' t' d1) → IfSome tape (λ given. bytes ≡ given)
-    → Served app q now r bytes (books [] h t (telling [] d)) (books s h' t' (telling bytes e'))
+    → Served app q now r bytes (books [] h t d) (books s h' t' e')
 told_served app q now r drawn bytes s h h' t t' d0 d1 d d' e' n n' tape begin end same served told =
     let begun = subst (λ (x : DrawState). Served app q now r drawn (books [] h t x) (books s h' t' d1)) begin served in
     let both = subst (λ (x : DrawState). Served app q now r drawn (books [] h t (taped d n (Some []))) (books s h' t' x)) end begun in
     let tells = tape_tells app q now r drawn bytes (books [] h t (taped d n (Some []))) (books s h' t' (taped d' n' tape)) both refl told in
-    let off = served_off_loan app q now r drawn (books [] h t (taped d n (Some []))) (books s h' t' (taped d' n' tape)) both in
-    let known = subst (λ (x : Option (List ℕ)). Served app q now r drawn (books [] h t (telling [] d)) (books s h' t' (record { coming = d'.coming; given = x; faults = d'.faults; loan = None }))) tells.0 off in
-    let named = subst (λ (x : List ℕ). Served app q now r x (books [] h t (telling [] d)) (books s h' t' (telling x d'))) (sym tells.1) known in
-    subst (λ (x : DrawState). Served app q now r bytes (books [] h t (telling [] d)) (books s h' t' (telling bytes x))) (sym same) named
+    let known : Served app q now r drawn (books [] h t d) (books s h' t' d') = served_lent app q now r drawn (books [] h t (taped d n (Some []))) (books s h' t' (taped d' n' tape)) both in
+    let named = subst (λ (x : List ℕ). Served app q now r x (books [] h t d) (books s h' t' d')) (sym tells.1) known in
+    subst (λ (x : DrawState). Served app q now r bytes (books [] h t d) (books s h' t' x)) (sym same) named

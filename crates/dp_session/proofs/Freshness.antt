@@ -15,7 +15,7 @@ use Rattle.ring_world.specs.declared.step.Step.TheVariants.{Take, Give, AppendFu
 use Rattle.ring_world.specs.Course.{Course}
 use Rattle.ring_world.specs.Flight as flight
 use Rattle.ring_world.specs.Flight.{Refusal, Flown, Broken, Plain, Keyed, Filled, Shrunk, NoRead, ShortRead, NoDraw, NoKeyDraw, NoAppend, ShortAppend}
-use Rattle.ring_world.specs.Path.{Call, Path, AtOnce, Stale, Alone, Turned, AloneFailed, AloneShort, Apart, Turn, Rests, Parts, Flies, path_course, path_end, turn_course, turn_end}
+use Rattle.ring_world.specs.Path.{Call, Path, Unseen, AtOnce, Stale, Alone, Turned, AloneFailed, AloneShort, Apart, Turn, Blind, Rests, Parts, Flies, path_course, path_end, turn_course, turn_end}
 use Rattle.ring_world.specs.Settle.{Settle, Keeps, Stays, Again, settle_course, settle_end}
 use Rattle.ring_world.specs.Way as way
 use Rattle.ring_world.specs.Way.{Way, Comes, Fails, IsWay, CallPath, way_course, way_end, answered, answer_steps}
@@ -49,7 +49,7 @@ enough_need need own (Err why) r e = cc
 -- the ring of a call that was answered has as many elements as were asked for
 call_need : (c : Call) (ring : RingOf) (own : List Element) (d : Course) → CallPath c (Ok ring) own d → c.need ≤ length ring.list
 call_need c ring own d (way.complete w is line e o s) = enough_need c.need own (way_end c w) ring e
-call_need c ring own d (way.cut_off w is e o k) = cc
+call_need c ring own d (way.cut_off w is line e o k) = cc
 
 unlisted_none : (u w : Used) → u ≡ w → has_list w ≡ false → has_list u ≡ true → ⊥
 unlisted_none u w e f h = let g : has_list u ≡ false = ap has_list e ∙ f in cc
@@ -158,9 +158,11 @@ same_refusal : (a b : Refusal) (steps : List Step) → no_ring a ≡ no_ring b �
 same_refusal a b steps e h = let f : a ≡ b = cc in subst (λ (w : Refusal). CountedBy w steps) f h
 
 path_counted : (c : Call) (p : Path) (why : Refusal) → path_end c p ≡ Err why → CountedBy why (path_course c p).steps
+path_counted c (Unseen n) why e = same_refusal flight.Memory why _ e tt
 path_counted c (AtOnce s) why e = cc
 path_counted c (Stale s h) why e = cc
 path_counted c (Alone s h es) why e = cc
+path_counted c (Turned s (Blind n)) why e = same_refusal flight.Memory why _ e tt
 path_counted c (Turned s (Rests t)) why e = cc
 path_counted c (Turned s (Parts t at)) why e = same_refusal (flight.Forked at c.own t.ring.list) why _ e tt
 path_counted c (Turned s (Flies t (Flown w f))) why e = cc
@@ -207,6 +209,7 @@ counted-before flight.BadDates s t h = tt
 counted-before flight.Memory s t h = tt
 
 turn_counted : (c : Call) (t : Turn) (why : Refusal) → turn_end c t ≡ Err why → CountedBy why (turn_course c t).steps
+turn_counted c (Blind n) why e = same_refusal flight.Memory why _ e tt
 turn_counted c (Rests t) why e = cc
 turn_counted c (Parts t at) why e = same_refusal (flight.Forked at c.own t.ring.list) why _ e tt
 turn_counted c (Flies t (Flown w f)) why e = cc
@@ -227,10 +230,11 @@ way_counted c (Fails p) why e = path_counted c p why e
 call_counted : (c : Call) (why : Refusal) (own : List Element) (d : Course) → CallPath c (Err why) own d → (why ≡ flight.Memory → ⊥) → CountedBy why d.steps
 call_counted c why own d (way.complete w is line e o s) known =
     subst (λ (x : Course). CountedBy why x.steps) (sym s) (answered_counted c (way_end c w) why (way_course c w).steps e (λ v f. way_counted c w v f))
-call_counted c why own d (way.cut_off w is e o k) known = let f : why ≡ flight.Memory = cc in absurd (known f)
+call_counted c why own d (way.cut_off w is line e o k) known = let f : why ≡ flight.Memory = cc in absurd (known f)
 
 -- a call that came to a ring had no draw that failed
 turn_draws : (c : Call) (t : Turn) (r : RingOf) → turn_end c t ≡ Ok r → draws_failed (turn_course c t).steps ≡ 0
+turn_draws c (Blind n) r e = cc
 turn_draws c (Rests t) r e = omega arith
 turn_draws c (Parts t at) r e = cc
 turn_draws c (Flies t (Flown w (Plain es))) r e = omega arith
@@ -240,6 +244,7 @@ turn_draws c (Flies t (Flown w (Shrunk es k got))) r e = omega arith
 turn_draws c (Flies t (Broken b)) r e = cc
 
 path_draws : (c : Call) (p : Path) (r : RingOf) → path_end c p ≡ Ok r → draws_failed (path_course c p).steps ≡ 0
+path_draws c (Unseen n) r e = cc
 path_draws c (AtOnce s) r e = omega arith
 path_draws c (Stale s h) r e = omega arith
 path_draws c (Alone s h es) r e = omega arith
@@ -276,7 +281,7 @@ ring_draws c ring own d (way.complete w is line e o s) =
     answer_draws : (x : Result RingOf Refusal) → draws_failed (answer_steps x) ≡ 0
     answer_draws (Ok r) = omega arith
     answer_draws (Err why) = omega arith
-ring_draws c ring own d (way.cut_off w is e o k) = cc
+ring_draws c ring own d (way.cut_off w is line e o k) = cc
 
 append_failed : (b : Bool) → 1 ≤ (tally ((draw_steps b ++ AppendFailed ∷ []) ++ [])).faults
 append_failed true = omega arith
@@ -422,7 +427,7 @@ chain_counts [] [] old new p = record {
 chain_counts [] (e ∷ es) old new p = absurd p
 chain_counts (b ∷ bodies) [] old new p = absurd p
 chain_counts (b ∷ bodies) (e ∷ es) old new p =
-    let one = serves_counts (request_at b) e.now e.used e.drawn (before old) (after e.steps e.drawn p.0) refl p.1.serves in
+    let one = serves_counts (request_at b) e.now e.used e.drawn (before old) (after e.steps p.0) refl p.1.serves in
     let rest = chain_counts bodies es p.0 new p.2 in
     record {
       faults = then_more _ _ _ _ _ one.faults rest.faults;

@@ -28,7 +28,7 @@ own_of need own (Err why) r e = cc
 -- the pass has then seen the list of the ring that answers
 pub own_by_ring : (c : Call) (r : RingOf) (own : List Element) (d : Course) → CallPath c (Ok r) own d → own ≡ r.list
 own_by_ring c r own d (complete w is line e o s) = o ∙ own_of c.need c.own (way_end c w) r e
-own_by_ring c r own d (cut_off p is e o s) = cc
+own_by_ring c r own d (cut_off p is line e o s) = cc
 
 -- the element that was placed stands last in the list that the pass has then seen
 pub record IsPlacedLast (a : Asked) (place : ℕ) (own : List Element) (d : Course) : Type 0 where

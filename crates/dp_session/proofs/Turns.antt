@@ -24,8 +24,9 @@ use Rattle.dp_session.specs.Replies.{reply_to}
 use Rattle.dp_session.specs.Serving.{State, state, Serves, Served, before, after, IsListOf}
 use Rattle.dp_session.specs.Turns.{turn_of, list_after, reply_bytes, IsTurn}
 use Rattle.dp_session.specs.Session.{outside, IsListAfter, OneServed, OneMore}
+use Rattle.dp_session.proofs.Drawing.{drew}
 
-pub answered_turn : (app bytes : List ℕ) (now need seen : ℕ) (steps : List Step) (drawn : List ℕ) (old new : State) (r : Result Response Memory) → Served app (request_at bytes) now r drawn (before old) (after steps drawn new) → need ≡ need_of (request_at bytes) → seen ≡ length old.host.own → Extends new.host.own old.host.own
+pub answered_turn : (app bytes : List ℕ) (now need seen : ℕ) (steps : List Step) (drawn : List ℕ) (old new : State) (r : Result Response Memory) → Served app (request_at bytes) now r drawn (before old) (after steps new) → need ≡ need_of (request_at bytes) → seen ≡ length old.host.own → Extends new.host.own old.host.own
     → IsTurn app bytes now (turn_of r now need seen steps drawn) old new
 answered_turn app bytes now need seen steps drawn old new (Ok a) s n l grows = record {
   moment = refl;
@@ -69,7 +70,8 @@ served_one app writes bytes h h' s s' d d' m m' moment now t o o' es es' l l' sh
     now = is.moment ∙ at;
     need = is.need;
     seen = is.seen;
-    serves = subst (λ (n : ℕ). Serves (request_at bytes) n t.entry.used t.entry.drawn (before (state h s d None)) (after t.entry.steps t.entry.drawn (state h' s' d' None))) (sym is.moment) is.serves;
+    serves = subst (λ (n : ℕ). Serves (request_at bytes) n t.entry.used t.entry.drawn (before (state h s d None)) (after t.entry.steps (state h' s' d' None))) (sym is.moment) is.serves;
+    drew = drew (request_at bytes) now t.entry.used t.entry.drawn (before (state h s d None)) (after t.entry.steps (state h' s' d' None)) is.serves;
     grows = is.grows;
   };
   list = subst (IsListAfter t.entry.used l h'.own) (sym list) (list_is t.entry.used t.list l h'.own is.list);

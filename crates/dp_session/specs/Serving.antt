@@ -74,7 +74,7 @@ pub data Serves (q : Result Request BadRequest) (now : ℕ) (u : Used) (drawn : 
   unread : (why : BadRequest) → q ≡ Err why → u ≡ used.BadRequest why.place → drawn ≡ [] → new ≡ old → Serves q now u drawn old new
   unstarted : u ≡ used.NoMemory → drawn ≡ [] → new ≡ old → Serves q now u drawn old new
   misdated : (p : Request) → q ≡ Ok p → HasBadDates p now → u ≡ used.Refused errors.BadDates → drawn ≡ [] → new ≡ old → Serves q now u drawn old new
-  by_ring : (p : Request) → q ≡ Ok p → needs_ring p ≡ true → (HasBadDates p now → ⊥) → (r : Result RingOf Refusal) → (between : DrawState) → (x : Does (CallPath (call (asking p now) (missing_of p) old.host new.store.list) r new.host.own) old (record new { draws = between })) → (bytes : List ℕ) → drawn ≡ x.course.drawn ++ bytes → Follows p r u bytes between new.draws → Serves q now u drawn old new
+  by_ring : (p : Request) → q ≡ Ok p → needs_ring p ≡ true → (HasBadDates p now → ⊥) → (r : Result RingOf Refusal) → (between : DrawState) → (x : Does (CallPath (call (asking p now) (missing_of p) old.host old.store.list new.store.list) r new.host.own) old (record new { draws = between })) → (bytes : List ℕ) → drawn ≡ x.course.drawn ++ bytes → Follows p r u bytes between new.draws → Serves q now u drawn old new
   by_place : (p : Request) → q ≡ Ok p → (HasBadDates p now → ⊥) → (a : Asked) → Asks p now old.host.own new.store.list a → (r : Result ℕ Refusal) → (x : Does (PlacePath a r new.host.own) old new) → x.course.drawn ≡ drawn → IsByPlace r u → Serves q now u drawn old new
 
 -- the list that an entry brings to the trace: the one that the pass has seen afterwards
@@ -106,20 +106,16 @@ pub record State : Type 0 where
   -- the moments to come, where the clock tells them
   pub moments : Option (List ℕ)
 
--- the bytes that a request drew are told, on whatever draw they came from
-abbrev pub telling : List ℕ → DrawState → DrawState
-telling bytes d = record { coming = d.coming; given = Some bytes; faults = d.faults; loan = None }
-
 abbrev pub state : HostState → Store → DrawState → Option (List ℕ) → State
 state host store draws moments =
     record { host = host; store = store; draws = draws; moments = moments }
 
--- what stands before a request, and after its steps and draws
+-- what stands before a request, and after its steps
 abbrev pub before : State → Books
-before s = books [] s.host s.store (telling [] s.draws)
+before s = books [] s.host s.store s.draws
 
-abbrev pub after : List Step → List ℕ → State → Books
-after steps drawn s = books steps s.host s.store (telling drawn s.draws)
+abbrev pub after : List Step → State → Books
+after steps s = books steps s.host s.store s.draws
 
 -- the number that is kept of a request: 0 where it wasn't kept
 abbrev pub IsNeed : ℕ → ℕ → Used → Type 0
@@ -132,5 +128,7 @@ pub record IsEntry (body : List ℕ) (e : Entry) (old new : State) : Type 0 wher
   pub now : e.now ≡ min moment LAST
   pub need : IsNeed e.need (need_of (request_at body)) e.used
   pub seen : e.seen ≡ length old.host.own
-  pub serves : Serves (request_at body) e.now e.used e.drawn (before old) (after e.steps e.drawn new)
+  pub serves : Serves (request_at body) e.now e.used e.drawn (before old) (after e.steps new)
+  -- the draw gave these bytes, in calls of which some may have failed
+  pub drew : (failed : ℕ) × Draws failed e.drawn old.draws new.draws
   pub grows : Extends new.host.own old.host.own

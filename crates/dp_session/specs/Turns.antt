@@ -54,7 +54,7 @@ pub record IsTurn (app body : List ℕ) (now : ℕ) (t : Turn) (old new : State)
   pub moment : t.entry.now ≡ now
   pub need : IsNeed t.entry.need (need_of (request_at body)) t.entry.used
   pub seen : t.entry.seen ≡ length old.host.own
-  pub serves : Serves (request_at body) now t.entry.used t.entry.drawn (before old) (after t.entry.steps t.entry.drawn new)
+  pub serves : Serves (request_at body) now t.entry.used t.entry.drawn (before old) (after t.entry.steps new)
   pub grows : Extends new.host.own old.host.own
   pub reply : reply_bytes t.reply ≡ frame (reply_to app now (request_at body) t.entry.used t.entry.drawn new.host.own)
   pub list : IsListOf t.entry.used t.list new.host.own

@@ -80,8 +80,8 @@ pub fn protect<W, H: Host<W>, R: Repo<W>, D: Draw>(
     requires free { (H.state host.old).held ≡ false }
     requires room { steps.old ≡ [] }
     ensures protects { (between : DrawState) × (r : Result RingOf Refusal)
-        × Does (CallPath (call at None (H.state host.old) (R.store repo.new).list) r
-        (H.state host.new).own)
+        × Does (CallPath (call at None (H.state host.old) (R.store repo.old).list
+        (R.store repo.new).list) r (H.state host.new).own)
         (books [] (H.state host.old) (R.store repo.old) (D.draws draw.old))
         (books steps.new (H.state host.new) (R.store repo.new) between)
         × Protects chain.now plain.now r result between (D.draws draw.new) }
@@ -123,7 +123,7 @@ pub fn unprotect<W, H: Host<W>, R: Repo<W>, D: Draw>(
     requires room { steps.old ≡ [] }
     ensures unprotects { (r : Result RingOf Refusal)
         × Does (CallPath (call at (named_in payload.now) (H.state host.old)
-        (R.store repo.new).list) r (H.state host.new).own)
+        (R.store repo.old).list (R.store repo.new).list) r (H.state host.new).own)
         (books [] (H.state host.old) (R.store repo.old) (D.draws draw.old))
         (books steps.new (H.state host.new) (R.store repo.new) (D.draws draw.new))
         × Unprotects chain.now payload.now allow_revoked r result }

@@ -13,7 +13,7 @@ ghost use Rattle.dp_session.specs.declared.status.Status.TheVariants.{ReadFault,
 ghost use Rattle.dp_session.specs.Frames.{IsKept, Reads};
 ghost use Rattle.dp_session.specs.Session.{EndsAt, OneMore, OneServed, outside};
 ghost use Rattle.dp_session.specs.Needs.{IsShort};
-ghost use Rattle.dp_session.specs.Serving.{Served, telling, state};
+ghost use Rattle.dp_session.specs.Serving.{Served, state};
 ghost use Rattle.dp_session.specs.Turns.{turn_of, reply_bytes, list_after, halt_of, IsTurn};
 
 use crate::answer::answer;
@@ -107,9 +107,8 @@ fn answer_told<W, H: Host<W>, R: Repo<W>, D: Draw>(
     requires free { (H.state host.old).held ≡ false }
     requires room { steps.old ≡ [] }
     ensures served { Served app.now (seen request_of request.entry) now result.0 result.1
-        (books [] (H.state host.old) (R.store repo.old) (telling [] (D.draws draw.old)))
-        (books steps.new (H.state host.new) (R.store repo.new)
-        (telling result.1 (D.draws draw.new))) }
+        (books [] (H.state host.old) (R.store repo.old) (D.draws draw.old))
+        (books steps.new (H.state host.new) (R.store repo.new) (D.draws draw.new)) }
     ensures free { (H.state host.new).held ≡ false }
     ensures grows { Extends (H.state host.new).own (H.state host.old).own }
 {

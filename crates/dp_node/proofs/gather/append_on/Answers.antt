@@ -1,6 +1,6 @@
 use Rattle.std.proofs.Common.{◌≡◌, ◌++◌, ◌+◌, ◌-◌, length, refl}
 use Rattle.std.proofs.lemmas.Result.{err_from_is_err_and}
-use Rattle.dp_node.proofs.Refusals.{append_refused, append_lost, appended, read_from}
+use Rattle.dp_node.proofs.Refusals.{append_refused, append_gave, append_lost, appended, read_from}
 use Rattle.dp_node.proofs.gather.append_on.Goals as goal
 
 pub returns-in-Err-clause-did : goal.returns-in-Err-clause-did
@@ -17,3 +17,12 @@ returns-in_err-grown-in-Ok-clause-did g c = λ host draws.
     let q = appended c.args.element.now c.len.result es tail c.len.ensures.value c.in-Ok.ensures.last in
     let place : c.len-in-Ok.result + c.len-in-Ok-2.result - 1 ≡ c.len.result + length tail - 1 = cc (c.len-in-Ok.ensures.value, c.len.ensures.value, c.len-in-Ok-2.ensures, c.in-Ok.tail.ok.0) in
     rw (p.1, p.2) (append_lost c.args.steps.now c.push.new.self host _ _ draws told es c.args.element.now (es ++ tail) (c.len.result + length tail - 1) q.0 c.in-Ok.ensures.moved (rw (← place) c.push.ensures) (read_from told es tail (es ++ tail) c.len.result c.len.ensures.value refl c.in-Ok.ensures.tail) q.1)
+
+pub returns-in_ok-grown-in-Ok-clause-did : goal.returns-in_ok-grown-in-Ok-clause-did
+returns-in_ok-grown-in-Ok-clause-did g c = λ host draws.
+    let es = c.args.list.now in
+    let tail = c.in-Ok.tail.items in
+    let told = (g.R.Repo.store c.append.new.self).list in
+    let q = appended c.args.element.now c.len.result es tail c.len.ensures.value c.in-Ok.ensures.last in
+    let place : c.len-in-Ok.result + c.len-in-Ok-2.result - 1 ≡ c.len.result + length tail - 1 = cc (c.len-in-Ok.ensures.value, c.len.ensures.value, c.len-in-Ok-2.ensures, c.in-Ok.tail.ok.0) in
+    rw c.in_ok-grown-in-Ok.ensures (append_gave c.args.steps.now c.push.new.self host _ _ draws told es c.args.element.now (es ++ tail) (c.len.result + length tail - 1) q.0 c.in-Ok.ensures.moved (rw (← place) c.push.ensures) (read_from told es tail (es ++ tail) c.len.result c.len.ensures.value refl c.in-Ok.ensures.tail) q.1)

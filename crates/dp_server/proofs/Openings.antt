@@ -23,7 +23,7 @@ use Rattle.dp_server.specs.Pipe.{AreStandard, around, IsOpening, status_of}
 abbrev Opened : Result HostState OpenRefused → Options → Store → Store → DrawState → DrawState → ℕ → Type 0
 Opened opened options s s' d d' now =
     (r : Result RingOf Refusal) × (steps : List Step) × Opens (first_facts now options) opened r
-    × ((host : HostState) → Does (Gathers (terms now options true s'.list) [] r) (books [] host s d) (books steps host s' d'))
+    × ((host : HostState) → Does (Gathers (terms now options true s.list s'.list) [] r) (books [] host s d) (books steps host s' d'))
 
 pub opening_of : (auto : Bool) (opened : Result HostState OpenRefused) (i o : Option (List ℕ)) (s s' : Store) (d d' : DrawState) (m m' : Option (List ℕ)) (moment now : ℕ) (options : Options) → ShowsMoment m m' moment → now ≡ min moment LAST → AreStandard auto options → Opened opened options s s' d d' now
     → IsOpening auto opened (around i o s d m) (around i o s' d' m')
@@ -79,7 +79,7 @@ module _ (options : Options) (s s' : Store) (d d' : DrawState) (now : ℕ) where
   pub store_fault : (why : OpenRefused) → Opened (Err why) options s s' d d' now → status_of why ≡ status.StoreFault → s'.faults ≡ one_more s.faults
   store_fault refused.StoreFault p e =
       let x = p.3 (some_pass options) in
-      x.recorded.store.faults ∙ ap (λ (k : ℕ). more k s.faults) (store_counted (terms now options true s'.list) p.0 x.course x.is p.2)
+      x.recorded.store.faults ∙ ap (λ (k : ℕ). more k s.faults) (store_counted (terms now options true s.list s'.list) p.0 x.course x.is p.2)
   store_fault refused.DrawFault p e = cc
   store_fault refused.Memory p e = cc
 
@@ -88,5 +88,5 @@ module _ (options : Options) (s s' : Store) (d d' : DrawState) (now : ℕ) where
   draw_fault refused.StoreFault p e = cc
   draw_fault refused.DrawFault p e =
       let x = p.3 (some_pass options) in
-      x.recorded.draws.faults ∙ ap (λ (k : ℕ). more k d.faults) (draw_counted (terms now options true s'.list) p.0 x.course x.is p.2)
+      x.recorded.draws.faults ∙ ap (λ (k : ℕ). more k d.faults) (draw_counted (terms now options true s.list s'.list) p.0 x.course x.is p.2)
   draw_fault refused.Memory p e = cc

@@ -53,7 +53,7 @@ pub record IsOpening (auto : Bool) (opened : Result HostState OpenRefused) (old 
   pub ring : Result RingOf Refusal
   pub steps : List Step
   pub opens : Opens (first_facts (min moment LAST) options) opened ring
-  pub did : (host : HostState) → Does (Gathers (terms (min moment LAST) options true new.store.list) [] ring) (books [] host old.store old.draws) (books steps host new.store new.draws)
+  pub did : (host : HostState) → Does (Gathers (terms (min moment LAST) options true old.store.list new.store.list) [] ring) (books [] host old.store old.draws) (books steps host new.store new.draws)
   pub input : new.input ≡ old.input
   pub output : new.output ≡ old.output
 

@@ -41,7 +41,7 @@ pub fn run<R: Repo<()>, D: Draw, C: Clock, I: Source, O: Sink>(
     ensures bad_words { (result.status ≡ BadWords) ↔ ¬ IsLawful (map string_bytes words.now) }
     ensures untouched { result.status ≡ BadWords → (input.new ≡ input.old) ×
         (output.new ≡ output.old) × (repo.new ≡ repo.old) × (draw.new ≡ draw.old) ×
-        (clock.new ≡ clock.old) }
+        (clock.new ≡ clock.old) × (result.trace.entries ≡ []) × (result.trace.list ≡ []) }
 
     // show: the whole input is a list, and the listing of its ring at the moment is written.
     ensures done { (moment : ℕ) → IsShow (map string_bytes words.now) moment

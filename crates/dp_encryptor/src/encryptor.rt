@@ -45,12 +45,7 @@ impl Model for Encryptor {
 
 impl Encryptor {
     /// An encryptor of the algorithm, whose header the table may hold already.
-    pub fn new(
-        alloc: Global,
-        alg: Alg,
-        material: &[u8; 64],
-        headers: &HeaderTable,
-    ) -> Encryptor
+    pub fn new(alloc: Global, alg: Alg, material: &[u8; 64], headers: &HeaderTable) -> Encryptor
         ensures { result ≡ record { alg = alg; material = material.now } }
     {
         Encryptor {

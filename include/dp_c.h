@@ -49,7 +49,7 @@ extern "C" {
 #define DP_NO_ROOM 5u
 /* The tag is another. */
 #define DP_BAD_TAG 6u
-/* More bytes came, or were asked for, than the call takes. */
+/* More bytes came, or were asked for, than the call takes; its limits are this library's own. */
 #define DP_TOO_LONG 7u
 /* No algorithm has the code. */
 #define DP_BAD_CODE 8u
@@ -172,11 +172,12 @@ uint32_t dp_body_seal(uint8_t code, const uint8_t material[64],
 
 /*
  * The text of a body. Room: the text's length, which is at most body_len - 44; body_len bytes always do.
- * The tag is compared before anything is deciphered.
+ * The tag is compared before anything is deciphered, and whether or not memory is found.
  * Answers DP_DONE; DP_BAD_CODE exactly where the code isn't 1 to 9; DP_BAD_LENGTH exactly where otherwise the
  * body is shorter than modifier, vector and tag together (64, 96 or 44 bytes); DP_TOO_LONG exactly where
- * otherwise it has 2^32 bytes or more; DP_TAMPERED where the tag is another, or the deciphered text isn't
- * padded, and nowhere else; DP_NO_MEMORY; DP_NO_ROOM. Takes memory.
+ * otherwise it has 2^32 bytes or more; DP_TAMPERED wherever otherwise the tag is another, or where the
+ * deciphered text isn't padded, and nowhere else; DP_NO_MEMORY, but never for a wrong tag; DP_NO_ROOM. Takes
+ * memory.
  */
 uint32_t dp_body_open(uint8_t code, const uint8_t material[64],
                       const uint8_t *aad, size_t aad_len,

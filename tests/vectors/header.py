@@ -11,6 +11,9 @@ from tally import Missing, same
 STRICT = ["-Wall", "-Wextra", "-Wpedantic", "-Wconversion", "-Werror", "-fsyntax-only"]
 LANGUAGES = [("gcc", "c99", "c"), ("gcc", "c11", "c"), ("g++", "c++11", "c++"), ("g++", "c++17", "c++")]
 
+# How the README's command begins. tests/vectors/build has just done that, with the same files.
+BUILT = "(cd crates/dp_c && rt lib) && "
+
 SAMPLE = [
     "sealed 33 bytes into 112",
     "opened: attack at dawn, by the north gate",
@@ -61,12 +64,13 @@ def exports():
 
 
 def sample():
-    """The README's command builds the sample, which seals, opens and is refused."""
+    """The README's command builds the sample, which seals, opens and is refused. The library is there."""
     if shutil.which("gcc") is None:
         raise Missing("gcc")
     commands = re.findall(r"^    (.*samples/seal\.c.*)$", (library.TOP / "README.md").read_text(), re.M)
     same(len(commands), 1, "commands of the README")
-    status, printed = told("bash", "-c", commands[0])
+    same(commands[0][: len(BUILT)], BUILT, "what the command begins with")
+    status, printed = told("bash", "-c", commands[0][len(BUILT) :])
     same((status, printed.splitlines()[-3:]), (0, SAMPLE), commands[0])
     yield
 

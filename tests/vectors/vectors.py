@@ -13,7 +13,7 @@ GCM_CASES = 2250
 HMAC_CASES = 6
 
 
-# SP 800-38A of 2001, F.2.1 to F.2.6: the vector, the text of four blocks, and each key with its body.
+# SP 800-38A, F.2.1 to F.2.6: the vector, the text of four blocks, and each key with its body.
 IV = "000102030405060708090a0b0c0d0e0f"
 TEXT = (
     "6bc1bee22e409f96e93d7e117393172aae2d8a571e03ac9c9eb76fac45af8e51"

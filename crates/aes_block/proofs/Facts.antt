@@ -1,5 +1,5 @@
 -- The definitions on the standard's own examples, by computing, so that a wrong step of theirs does not
--- check (FIPS 197 of 2001, 5.1.1 and appendices A and C).
+-- check (FIPS 197, 5.1.1, and appendices A and C as the edition of 2001 prints them).
 use Rattle.std.proofs.Common.{◌≡◌, ℕ, List, [], ◌∷◌, slice_index, refl}
 use Rattle.aes_block.specs.Field.{xtime, times_bits, times, even_power, inverse, affine, sub_byte, inv_affine, inv_sub_byte}
 use Rattle.aes_block.specs.KeyExpansion.{rot_word, sub_word, power_of_x, rcon, added_word, next_word, first_words, key_expansion}

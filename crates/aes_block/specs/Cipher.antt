@@ -1,5 +1,5 @@
--- The cipher and its inverse (FIPS 197, update 1 of 2023, 5.1 and 5.3) on lists. A block and a state are lists of 16
--- bytes, column after column (3.4), and section numbers are the standard's.
+-- The cipher and its inverse (FIPS 197, 5.1 and 5.3) on lists. A block and a state are lists of 16 bytes,
+-- column after column (3.4), and section numbers are the standard's.
 use Rattle.std.specs.Prelude.{ℕ, zero, suc, ◌+◌, ◌-◌, ◌*◌, ◌/◌, ◌%◌, List, ◌++◌, map, bit_xor, slice_index}
 use Rattle.std.specs.Int.{w32, to_be_bytes}
 use Rattle.std.specs.List.{range_with_len}
@@ -23,14 +23,14 @@ sub_bytes s = map sub_byte s
 unfoldable pub shift_rows : List ℕ → List ℕ
 shift_rows s = state_of (λ r c. state_byte s r ((c + r) % 4))
 
--- coefficient r of the product of the polynomial a0 + a1 x + a2 x^2 + a3 x^3 and that of column c,
--- modulo x^4 + 1 (4.3)
+-- byte r of the product of column c by the fixed matrix of the word a0, a1, a2, a3, which is its first
+-- column; each further one is the column before it, turned down by one place (4.3)
 abbrev pub product_at : ℕ → ℕ → ℕ → ℕ → List ℕ → ℕ → ℕ → ℕ
 product_at a0 a1 a2 a3 s r c =
     bit_xor (bit_xor (times a0 (state_byte s r c)) (times a3 (state_byte s ((r + 1) % 4) c)))
     (bit_xor (times a2 (state_byte s ((r + 2) % 4) c)) (times a1 (state_byte s ((r + 3) % 4) c)))
 
--- MixColumns: each column times 3 x^3 + x^2 + x + 2 (5.1.3)
+-- MixColumns: each column by the fixed matrix of the word 2, 1, 1, 3 (5.1.3)
 unfoldable pub mix_columns : List ℕ → List ℕ
 mix_columns s = state_of (product_at 2 1 1 3 s)
 
@@ -60,7 +60,7 @@ inv_shift_rows s = state_of (λ r c. state_byte s r ((c + 4 - r) % 4))
 unfoldable pub inv_sub_bytes : List ℕ → List ℕ
 inv_sub_bytes s = map inv_sub_byte s
 
--- InvMixColumns: each column times 11 x^3 + 13 x^2 + 9 x + 14 (5.3.3)
+-- InvMixColumns: each column by the fixed matrix of the word 14, 9, 13, 11 (5.3.3)
 unfoldable pub inv_mix_columns : List ℕ → List ℕ
 inv_mix_columns s = state_of (product_at 14 9 13 11 s)
 

@@ -8,7 +8,7 @@ use Rattle.aes_block.specs.Cipher.{product_at, round_key}
 abbrev pub state_bytes : List ℕ → List ℕ
 state_bytes columns = round_key columns 0
 
--- a column times the polynomial a0 + a1 x + a2 x^2 + a3 x^3, modulo x^4 + 1 (FIPS 197, 4.3)
+-- the product of a column by the fixed matrix of the word a0, a1, a2, a3 (FIPS 197, 4.3)
 abbrev pub column_product : ℕ → ℕ → ℕ → ℕ → List ℕ → List ℕ
 column_product a0 a1 a2 a3 column = map (λ r. product_at a0 a1 a2 a3 column r 0) (0 ∷ 1 ∷ 2 ∷ 3 ∷ [])
 

@@ -1,4 +1,4 @@
--- The equivalent inverse cipher (FIPS 197, update 1 of 2023, 5.3.5) on lists, which takes the steps in the order of the
+-- The equivalent inverse cipher (FIPS 197, 5.3.5) on lists, which takes the steps in the order of the
 -- cipher. A schedule of it is a list of words as a schedule of the cipher is.
 use Rattle.std.specs.Prelude.{◌≡◌, ℕ, zero, suc, ◌-◌, ◌<◌, ◌≤◌, List}
 use Rattle.aes_block.specs.Cipher.{round_key, add_round_key, inv_shift_rows, inv_sub_bytes, inv_mix_columns}

@@ -1,6 +1,6 @@
--- Bytes as elements of GF(2^8) (FIPS 197, update 1 of 2023). A byte is a number below 256 whose bits
--- are the coefficients of a polynomial, the sum of two bytes is their bit_xor (4.1), and section
--- numbers are the standard's.
+-- Bytes as elements of GF(2^8) (FIPS 197, 4). A byte is a number below 256 whose bits are the
+-- coefficients of a polynomial, the sum of two bytes is their bit_xor (4.1), and section numbers are the
+-- standard's.
 use Rattle.std.specs.Prelude.{ℕ, zero, suc, ◌*◌, ◌/◌, ◌%◌, ◌==◌, if◌then◌else◌, bit_xor}
 use Rattle.std.specs.Int.{w8, rotate_left}
 

@@ -1,5 +1,5 @@
--- The key expansion (FIPS 197, update 1 of 2023, 5.2). A key is a list of bytes, and a word is a number below 2 ^ 32,
--- whose high byte is the standard's first.
+-- The key expansion (FIPS 197, 5.2). A key is a list of bytes, and a word is a number below 2 ^ 32, whose
+-- high byte is the standard's first.
 use Rattle.std.specs.Prelude.{◌≡◌, ◌⊎◌, ℕ, zero, suc, ◌+◌, ◌-◌, ◌*◌, ◌/◌, ◌%◌, ◌^◌, ◌==◌, ◌&&◌, if◌then◌else◌, List, [], ◌∷◌, ◌++◌, length, map, bit_xor, nat_lt, slice_index}
 use Rattle.std.specs.Int.{w32, rotate_left, from_be_bytes, to_be_bytes}
 use Rattle.aes_block.specs.Field.{sub_byte, xtime}

@@ -1,4 +1,4 @@
-//! The example vectors of FIPS 197 (2001, appendix C).
+//! The example vectors of FIPS 197, appendix C, as the edition of 2001 prints them.
 
 use crate::{Aes, BadKeyLength};
 use dp_base::BlockCipher;

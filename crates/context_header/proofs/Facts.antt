@@ -1,5 +1,5 @@
--- The definitions on whole headers, by computing, so that a wrong definition does not check. The values
--- were worked out by Python's `cryptography`, `hmac` and `hashlib`.
+-- The definitions on the two headers that Microsoft Learn publishes ("Context headers in ASP.NET Core"), by
+-- computing, so that a wrong definition does not check.
 use Rattle.std.proofs.Common.{◌≡◌, [], ◌∷◌, refl}
 use Rattle.sha2.specs.Sha256.{sha256}
 use Rattle.sha2.specs.Sha256 as S256

@@ -6,7 +6,8 @@ use dp_base::{AesSize, Alg};
 use gcm_mode::{gcm_open, gcm_seal};
 use std::test::Fail;
 
-// Worked out by Python's `cryptography`, `hmac` and `hashlib`, apart from this repository.
+// Worked out by Python's `cryptography`, `hmac` and `hashlib`, apart from this repository. Two are also
+// published.
 #[test]
 fn headers(rt: HostRuntime) {
     let cases: [(Alg, &[u8]); 9] = [
@@ -18,6 +19,7 @@ fn headers(rt: HostRuntime) {
                 \x00\x1b\xdb\x49\xcc\x4a\x7f\x8f\x7a\x19\x2b\xcd\x48\xf4\xe7",
         ),
         (
+            // Published by Microsoft Learn, "Context headers in ASP.NET Core".
             Alg::Cbc256(AesSize::A192),
             b"\x00\x00\x00\x00\x00\x18\x00\x00\x00\x10\x00\x00\x00\x20\x00\x00\x00\
                 \x20\xf4\x74\xb1\x87\x2b\x3b\x53\xe4\x72\x1d\xe1\x9c\x08\x41\xdb\x6f\
@@ -69,6 +71,7 @@ fn headers(rt: HostRuntime) {
                 \x10\x0d\xaa\x01\x3a\x95\x0a\xda\x2b\x79\x8f\x5f\xf2\x72\xfa\xd3\x63",
         ),
         (
+            // Published by Microsoft Learn, "Context headers in ASP.NET Core".
             Alg::Gcm(AesSize::A256),
             b"\x00\x01\x00\x00\x00\x20\x00\x00\x00\x0c\x00\x00\x00\x10\x00\x00\x00\
                 \x10\xe7\xdc\xce\x66\xdf\x85\x5a\x32\x3a\x6b\xb7\xbd\x7a\x59\xbe\x45",

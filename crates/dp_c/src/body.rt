@@ -56,9 +56,7 @@ pub extern "C" fn dp_body_seal(
     if is_long(plain) {
         return TOO_LONG;
     }
-    let Ok(encryptor) = Encryptor::new(alloc, alg, material, &HeaderTable::new(alloc)) else {
-        return NO_MEMORY;
-    };
+    let encryptor = Encryptor::new(alloc, alg, material, &HeaderTable::new(alloc));
     match encryptor.seal(alloc, aad, modifier, iv, plain) {
         Ok(body) => hand_out(&body, out, written),
         Err(_) => NO_MEMORY,
@@ -86,9 +84,10 @@ pub extern "C" fn dp_body_open(
         → (result ≡ BAD_LENGTH) ↔ (length body.now < plain_len alg) }
     ensures too_long { (result ≡ TOO_LONG) ↔ (IsCode code × (2 ^ 32 ≤ length body.now)) }
 
+    // A wrong tag is told whether or not memory is found.
     ensures wrong_tag { (alg : Alg) → FitsBody alg code body.now
         → (¬ HasTag alg (body_keys alg material.now aad.now body.now) (parts_of alg body.now))
-        → (result ≡ TAMPERED) ⊎ (result ≡ NO_MEMORY) }
+        → result ≡ TAMPERED }
     ensures not_padded { (alg : Alg) → FitsBody alg code body.now
         → (¬ Unpads alg (body_keys alg material.now aad.now body.now) (parts_of alg body.now))
         → (result ≡ TAMPERED) ⊎ (result ≡ NO_MEMORY) }
@@ -115,9 +114,7 @@ pub extern "C" fn dp_body_open(
     let Some(view) = BodyView::split(body, alg) else {
         return BAD_LENGTH;
     };
-    let Ok(encryptor) = Encryptor::new(alloc, alg, material, &HeaderTable::new(alloc)) else {
-        return NO_MEMORY;
-    };
+    let encryptor = Encryptor::new(alloc, alg, material, &HeaderTable::new(alloc));
     match encryptor.open_body(alloc, aad, view) {
         Ok(text) => hand_out(&text, out, written),
         Err(BodyRefused::Tampered) => TAMPERED,

@@ -45,18 +45,13 @@ impl Model for Encryptor {
 
 impl Encryptor {
     /// An encryptor of the algorithm, whose header the table may hold already.
-    pub fn new(
-        alloc: Global,
-        alg: Alg,
-        material: &[u8; 64],
-        headers: &HeaderTable,
-    ) -> Result<Encryptor, Memory>
-        ensures { IfOk result (λ e. e ≡ record { alg = alg; material = material.now }) }
+    pub fn new(alloc: Global, alg: Alg, material: &[u8; 64], headers: &HeaderTable) -> Encryptor
+        ensures { result ≡ record { alg = alg; material = material.now } }
     {
-        Ok(Encryptor {
-            header: headers.get(alloc, alg)?,
+        Encryptor {
+            header: headers.get(alloc, alg),
             material: *material,
-        })
+        }
     }
 
     /// The body of the text: modifier, vector, enciphered text and tag. No two bodies of one secret and

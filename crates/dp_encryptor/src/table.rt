@@ -1,11 +1,11 @@
 //! Context headers that are worked out once.
 
-ghost use Rattle.std.specs.Prelude.{◌≡◌, IfOk};
+ghost use Rattle.std.specs.Prelude.{◌≡◌};
 
 use context_header::{Header, header_of};
-use dp_base::{Alg, Memory, code_of};
+use dp_base::{Alg, code_of};
 use once_cell::race::OnceBox;
-use std::alloc::{AllocError, Global};
+use std::alloc::Global;
 
 /// A cell for the header of each algorithm, which the first caller fills.
 #[derive(Drop)]
@@ -32,21 +32,26 @@ impl HeaderTable {
         }
     }
 
-    /// The header of the algorithm. A cell that holds another's isn't used.
-    pub fn get(&self, alloc: Global, alg: Alg) -> Result<Header, Memory>
-        ensures { IfOk result (λ header. header ≡ alg) }
+    /// The header of the algorithm. A cell that holds another's isn't used, and a header for which no
+    /// memory is found isn't kept.
+    pub fn get(&self, alloc: Global, alg: Alg) -> Header
+        ensures { result ≡ alg }
     {
         let cell = &self.cells[usize::from(code_of(alg)) - 1];
-        let header = filled(cell, alloc, alg)?;
-        if header.alg() == alg {
-            Ok(header.copied())
-        } else {
-            Ok(header_of(alg))
+        match cell.get() {
+            Some(header) if header.alg() == alg => header.copied(),
+            _ => worked_out(cell, alloc, alg),
         }
     }
 }
 
-// What the cell holds: the header of the algorithm, where this caller is the first.
-fn filled(cell: &OnceBox<Header>, alloc: Global, alg: Alg) -> Result<&Header, AllocError> {
-    cell.get_or_try_init(move || Ok(Box::new(alloc, header_of(alg))?))
+// The header of the algorithm, of which the cell gets a copy where it is empty.
+fn worked_out(cell: &OnceBox<Header>, alloc: Global, alg: Alg) -> Header
+    ensures { result ≡ alg }
+{
+    let header = header_of(alg);
+    if let Ok(copy) = Box::new(alloc, header.copied()) {
+        let _ = cell.set(copy);
+    }
+    header
 }

@@ -47,7 +47,7 @@ within most text given = if nat_lt most (length text) then Err (TooLong (length 
 abbrev pub protects : RingOf → List (List ℕ) → List ℕ → List ℕ → Result (List ℕ) ProtectRefused
 protects ring chain drawn plain = within MAX_PLAIN plain (sealing ring chain drawn plain)
 
--- one call of a draw gave so many bytes, and what is given of them is this
+-- calls of a draw gave so many bytes in all, and none failed, and what is given of them is this
 pub record Sealed (len : ℕ) (given : List ℕ → Result (List ℕ) ProtectRefused) (old new : DrawState) (value : List ℕ) : Type 0 where
   pub drawn : List ℕ
   pub len_is : length drawn ≡ len
@@ -55,7 +55,7 @@ pub record Sealed (len : ℕ) (given : List ℕ → Result (List ℕ) ProtectRef
   pub draws : Draws 0 drawn old new
   pub value_is : given drawn ≡ Ok value
 
--- one call of a draw gave so many bytes
+-- calls of a draw gave so many bytes in all, and none failed
 abbrev pub Drew : ℕ → DrawState → DrawState → Type 0
 Drew len old new = (drawn : List ℕ) × (length drawn ≡ len) × Draws 0 drawn old new
 

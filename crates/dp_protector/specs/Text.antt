@@ -1,5 +1,4 @@
--- Payloads as texts, in base64url without padding (RFC 4648, sections 3.2 and 5), whose plaintexts are
--- texts too.
+-- Payloads as texts, in base64url (RFC 4648, 5) without padding (3.2), whose plaintexts are texts too.
 use Rattle.std.specs.Prelude.{◌≡◌, ◌⊎◌, ℕ, Bool, if◌then◌else◌, List, Option, Some, None, Result, Ok, Err, string_bytes}
 use Rattle.std.specs.Result.{result_ok}
 use Rattle.std.specs.Str.{is_utf8}
@@ -20,7 +19,7 @@ use Rattle.dp_protector.specs.Opening.{Opening, opened}
 abbrev pub text_of : List ℕ → List ℕ
 text_of payload = encode_of url_safe_no_pad payload
 
--- the payload that a text is of, if it is of one; each payload has one text
+-- the payload that a text is of, if it is of one; each payload has one text (3.5)
 unfoldable pub payload_of : List ℕ → Option (List ℕ)
 payload_of text = result_ok (decode_of url_safe_no_pad text)
 

@@ -19,8 +19,8 @@ pub const MAX_PLAIN: usize = 1_000_000;
 
 const _: () = prove!(MAX_PLAIN == 1_000_000);
 
-/// The payload of a plaintext under the ring's default key, for a chain of purposes. One call draws the
-/// 16 bytes of its modifier and then its vector.
+/// The payload of a plaintext under the ring's default key, for a chain of purposes. Calls of the draw
+/// give the 16 bytes of its modifier and then its vector.
 pub fn protect_with<D: Draw>(
     alloc: Global,
     ring: &Ring,

@@ -62,7 +62,7 @@ fn protecting(ring: &Ring) -> Option<(&KeyRecord, Alg)>
     Some((key, alg))
 }
 
-// Draws what a payload of the algorithm needs, by one call.
+// Draws what a payload of the algorithm needs.
 fn fill_drawn<D: Draw>(draw: &mut D, alg: Alg, out: &mut [u8]) -> Result<(), Failed>
     requires { length out.old ≡ 16 + iv_len alg }
     ensures len { length out.new ≡ 16 + iv_len alg }
@@ -97,8 +97,8 @@ fn payload(
     Ok(out)
 }
 
-/// The payload of a text of any length under the ring's default key. One call draws its modifier and
-/// its vector, after all else that may be refused but the room of the payload.
+/// The payload of a text of any length under the ring's default key. Its modifier and its vector are
+/// drawn after all else that may be refused but the room of the payload.
 pub(crate) fn sealed<D: Draw>(
     alloc: Global,
     ring: &Ring,
@@ -124,7 +124,7 @@ pub(crate) fn sealed<D: Draw>(
         Some(found) => found,
         None => return Err(ProtectRefused::NoDefaultKey),
     };
-    let encryptor = Encryptor::new(alloc, alg, &key.material, headers)?;
+    let encryptor = Encryptor::new(alloc, alg, &key.material, headers);
     let aad = chain.aad(alloc, &key.id)?;
     let mut room = [0; MAX_DRAW];
     let drawn = &mut room[..MODIFIER_LEN + iv_len(alg)];

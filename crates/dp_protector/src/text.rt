@@ -1,4 +1,4 @@
-//! Texts, protected as texts: base64url without padding (RFC 4648, section 5).
+//! Texts, protected as texts: base64url (RFC 4648, 5) without padding (3.2), in canonical form (3.5).
 
 ghost use Rattle.std.specs.Prelude.{◌≡◌, ◌↔◌, ◌⊎◌, ◌<◌, ◌≤◌, ◌^◌, ℕ, [], length, None, Some, Err, IfOk, IfErr, string_bytes};
 ghost use Rattle.dp_base.specs.Draws.{Draws};
@@ -25,8 +25,8 @@ pub const MAX_TEXT: usize = 750_000;
 
 const _: () = prove!(MAX_TEXT == 750_000);
 
-/// The payload of a text under the ring's default key, for a chain of purposes, as a text. One call
-/// draws the 16 bytes of its modifier and then its vector.
+/// The payload of a text under the ring's default key, for a chain of purposes, as a text. Calls of the
+/// draw give the 16 bytes of its modifier and then its vector.
 pub fn protect_text<D: Draw>(
     alloc: Global,
     ring: &Ring,

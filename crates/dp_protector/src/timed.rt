@@ -40,7 +40,7 @@ fn timed_chain(alloc: Global, chain: &Chain) -> Result<Chain, Memory>
 }
 
 /// The payload of a plaintext that is used up to its expiry, in ticks, under the ring's default key, for
-/// a chain of purposes. One call draws the 16 bytes of its modifier and then its vector.
+/// a chain of purposes. Calls of the draw give the 16 bytes of its modifier and then its vector.
 pub fn protect_timed<D: Draw>(
     alloc: Global,
     ring: &Ring,

@@ -33,7 +33,7 @@ fn open_body(
     let Some(body) = BodyView::split(body, alg) else {
         return Err(UnprotectRefused::Tampered);
     };
-    let encryptor = Encryptor::new(alloc, alg, &key.material, headers)?;
+    let encryptor = Encryptor::new(alloc, alg, &key.material, headers);
     let aad = chain.aad(alloc, &key.id)?;
     Ok(encryptor.open_body(alloc, &aad, body)?)
 }

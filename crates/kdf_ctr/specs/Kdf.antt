@@ -1,4 +1,4 @@
--- Key derivation in counter mode (SP 800-108 revision 1, 4.1) on lists of bytes, with a counter of 32
+-- Key derivation in counter mode (SP 800-108, 4.1) on lists of bytes, with a counter of 32
 -- bits before the fixed data, over a pseudorandom function prf of values of h bytes. Section and step
 -- numbers are the standard's.
 use Rattle.std.specs.Prelude.{ℕ, zero, suc, ◌+◌, ◌*◌, List, [], ◌∷◌, ◌++◌, take}
@@ -18,6 +18,6 @@ abbrev pub blocks : (List ℕ → List ℕ → List ℕ) → List ℕ → List �
 blocks prf key fixed i zero = []
 blocks prf key fixed i (suc count) = block prf key fixed i ++ blocks prf key fixed (i + 1) count
 
--- KO: the first n bytes of K(1), K(2), … (4.1, step 5)
+-- K_OUT: the first n bytes of K(1), K(2), … (4.1, step 5)
 unfoldable pub kdf : (List ℕ → List ℕ → List ℕ) → ℕ → List ℕ → List ℕ → List ℕ → ℕ → List ℕ
 kdf prf h key label context n = take n (blocks prf key (fixed_data label context n) 1 (div_ceil n h))

@@ -10,6 +10,8 @@ use thiserror::Error;
 /// The most bytes that are derived at once.
 pub const MAX_DERIVED: usize = 1024;
 
+const _: () = prove!(MAX_DERIVED == 1_024);
+
 // The most bytes that a value of a `Prf` has.
 const MAX_VALUE: usize = 64;
 

@@ -1,4 +1,4 @@
--- Two columns whose polynomials have the product 1 undo each other.
+-- Two fixed matrices (FIPS 197, 4.3) whose product is the identity undo each other.
 use Rattle.std.proofs.Common.{◌≡◌, ℕ, ◌<◌, refl, sym, ap, ◌∙◌}
 use Rattle.std.specs.Prelude.{bit_xor}
 use Rattle.std.proofs.lemmas.Nat.{xor_comm, xor_lt}
@@ -40,7 +40,7 @@ times-sum4 f a b c d ha hb hc hd =
     ∙ ap (λ (x : ℕ). bit_xor x (times f (bit_xor c d))) (times-xor f a b ha hb)
     ∙ ap (λ (x : ℕ). bit_xor (bit_xor (times f a) (times f b)) x) (times-xor f c d hc hd)
 
--- coefficient 0 of the product of two polynomials modulo x^4 + 1
+-- byte 0 of the product of a column by the fixed matrix whose first row is p0, p3, p2, p1
 abbrev pub first_of : ℕ → ℕ → ℕ → ℕ → ℕ → ℕ → ℕ → ℕ → ℕ
 first_of p0 p3 p2 p1 s0 s1 s2 s3 = sum4 (times p0 s0) (times p3 s1) (times p2 s2) (times p1 s3)
 
@@ -48,7 +48,7 @@ pub first_of-lt : (p0 p3 p2 p1 s0 s1 s2 s3 : ℕ) → s0 < 256 → s1 < 256 → 
 first_of-lt p0 p3 p2 p1 s0 s1 s2 s3 h0 h1 h2 h3 =
     xor_lt 8 _ _ (xor_lt 8 _ _ (times-lt p0 s0 h0) (times-lt p3 s1 h1)) (xor_lt 8 _ _ (times-lt p2 s2 h2) (times-lt p1 s3 h3))
 
--- the product is linear in its second factor
+-- the product is linear in the column
 pub first_of-xor : (p0 p3 p2 p1 s0 s1 s2 s3 t0 t1 t2 t3 : ℕ) → s0 < 256 → s1 < 256 → s2 < 256 → s3 < 256 → t0 < 256 → t1 < 256 → t2 < 256 → t3 < 256
     → first_of p0 p3 p2 p1 (bit_xor s0 t0) (bit_xor s1 t1) (bit_xor s2 t2) (bit_xor s3 t3)
     ≡ bit_xor (first_of p0 p3 p2 p1 s0 s1 s2 s3) (first_of p0 p3 p2 p1 t0 t1 t2 t3)
@@ -56,7 +56,7 @@ first_of-xor p0 p3 p2 p1 s0 s1 s2 s3 t0 t1 t2 t3 h0 h1 h2 h3 g0 g1 g2 g3 =
     (λ i. sum4 (times-xor p0 s0 t0 h0 g0 i) (times-xor p3 s1 t1 h1 g1 i) (times-xor p2 s2 t2 h2 g2 i) (times-xor p1 s3 t3 h3 g3 i))
     ∙ sym (rows-xor (times p0 s0) (times p3 s1) (times p2 s2) (times p1 s3) (times p0 t0) (times p3 t1) (times p2 t2) (times p1 t3))
 
--- the polynomial p times the polynomial q is 1 modulo x^4 + 1, as it acts on bytes
+-- the fixed matrix of p times that of q is the identity, as it acts on bytes: its first row
 pub record Undoes (p0 p3 p2 p1 q0 q3 q2 q1 : ℕ) : Type 0 where
   pub one : (b : ℕ) → b < 256 → sum4 (times p0 (times q0 b)) (times p3 (times q1 b)) (times p2 (times q2 b)) (times p1 (times q3 b)) ≡ b
   pub first : (b : ℕ) → b < 256 → sum4 (times p0 (times q1 b)) (times p3 (times q2 b)) (times p2 (times q3 b)) (times p1 (times q0 b)) ≡ 0
@@ -85,7 +85,7 @@ first_of-first_of p0 p3 p2 p1 q0 q3 q2 q1 u s0 s1 s2 s3 h0 h1 h2 h3 =
     ∙ (λ i. sum4 (u.one s0 h0 i) (u.third s1 h1 i) (u.second s2 h2 i) (u.first s3 h3 i))
     ∙ xor_zero_r (bit_xor s0 0) ∙ xor_zero_r s0
 
--- 11 x^3 + 13 x^2 + 9 x + 14 times 3 x^3 + x^2 + x + 2
+-- the matrix of InvMixColumns times that of MixColumns
 pub unmixes : Undoes 14 11 13 9 2 3 1 1
 unfolding xtime times_bits times
 unmixes = record {
@@ -95,7 +95,7 @@ unmixes = record {
   third = same_in_table _ (λ b. 0) 256 refl;
 }
 
--- 3 x^3 + x^2 + x + 2 times 11 x^3 + 13 x^2 + 9 x + 14
+-- the matrix of MixColumns times that of InvMixColumns
 pub remixes : Undoes 2 3 1 1 14 11 13 9
 unfolding xtime times_bits times
 remixes = record {

@@ -6,56 +6,56 @@ use Rattle.dp_encryptor.specs.Body.{HasTag, Opens, Unpads}
 use Rattle.dp_c.proofs.Codes.{at_code, from_code}
 use Rattle.dp_c.proofs.body.dp_body_open.Goals as goal
 
-pub returns-in-Ok-open_body-clause-done : goal.returns-in-Ok-open_body-clause-done
-returns-in-Ok-open_body-clause-done c alg code done =
-    let told : c.deref.result.now ≡ c.in-Ok-open_body.text.items = search rules in
+pub returns-in-Ok-clause-done : goal.returns-in-Ok-clause-done
+returns-in-Ok-clause-done c alg code done =
+    let told : c.deref.result.now ≡ c.in-Ok.text.items = search rules in
     let bytes = c.hand_out.ensures.bytes done in
-    let all : c.in-Ok-open_body.text.items ≡ take c.hand_out.new.written c.hand_out.new.out = sym told ∙ sym bytes.1 in (
+    let all : c.in-Ok.text.items ≡ take c.hand_out.new.written c.hand_out.new.out = sym told ∙ sym bytes.1 in (
       bytes.0,
       at_code (λ (a : Alg) (k : KeyPair) (p : Parts). Opens a k p (take c.hand_out.new.written c.hand_out.new.out))
-          c.in-Ok.encryptor c.in-Some-split.view c.in-Some.alg alg c.args.material.now c.args.aad.now c.args.body.now c.args.code
-          c.in-Ok.ensures c.in-Some-split.ensures.parts c.in-Some.ensures.value code (rw (← all) c.in-Ok-open_body.ensures.found),
+          c.new-encryptor.result c.in-Some-split.view c.in-Some.alg alg c.args.material.now c.args.aad.now c.args.body.now c.args.code
+          c.new-encryptor.ensures c.in-Some-split.ensures.parts c.in-Some.ensures.value code (rw (← all) c.in-Ok.ensures.found),
     )
 
-pub returns-in-Ok-open_body-clause-not_padded : goal.returns-in-Ok-open_body-clause-not_padded
-returns-in-Ok-open_body-clause-not_padded c alg fits wrong =
+pub returns-in-Ok-clause-not_padded : goal.returns-in-Ok-clause-not_padded
+returns-in-Ok-clause-not_padded c alg fits wrong =
     let here = from_code (λ (a : Alg) (k : KeyPair) (p : Parts). ¬ (Unpads a k p))
-    c.in-Ok.encryptor c.in-Some-split.view c.in-Some.alg alg c.args.material.now c.args.aad.now c.args.body.now c.args.code
-    c.in-Ok.ensures c.in-Some-split.ensures.parts c.in-Some.ensures.value fits.code_is wrong in
-    let refused = c.in-Ok-open_body.ensures.not_padded here in
+    c.new-encryptor.result c.in-Some-split.view c.in-Some.alg alg c.args.material.now c.args.aad.now c.args.body.now c.args.code
+    c.new-encryptor.ensures c.in-Some-split.ensures.parts c.in-Some.ensures.value fits.code_is wrong in
+    let refused = c.in-Ok.ensures.not_padded here in
     search rules
 
-pub returns-in-Ok-open_body-clause-only : goal.returns-in-Ok-open_body-clause-only
-returns-in-Ok-open_body-clause-only c alg text are fits opens =
-    let told : c.deref.result.now ≡ c.in-Ok-open_body.text.items = search rules in
+pub returns-in-Ok-clause-only : goal.returns-in-Ok-clause-only
+returns-in-Ok-clause-only c alg text are fits opens =
+    let told : c.deref.result.now ≡ c.in-Ok.text.items = search rules in
     let here = from_code (λ (a : Alg) (k : KeyPair) (p : Parts). Opens a k p text)
-    c.in-Ok.encryptor c.in-Some-split.view c.in-Some.alg alg c.args.material.now c.args.aad.now c.args.body.now c.args.code
-    c.in-Ok.ensures c.in-Some-split.ensures.parts c.in-Some.ensures.value fits.code_is opens in
-    let same : c.in-Ok-open_body.text.items ≡ text = c.in-Ok-open_body.ensures.only text are here in
+    c.new-encryptor.result c.in-Some-split.view c.in-Some.alg alg c.args.material.now c.args.aad.now c.args.body.now c.args.code
+    c.new-encryptor.ensures c.in-Some-split.ensures.parts c.in-Some.ensures.value fits.code_is opens in
+    let same : c.in-Ok.text.items ≡ text = c.in-Ok.ensures.only text are here in
     search rules
 
-pub returns-in-Ok-open_body-clause-no_room : goal.returns-in-Ok-open_body-clause-no_room
-returns-in-Ok-open_body-clause-no_room c alg code full =
-    let told : c.deref.result.now ≡ c.in-Ok-open_body.text.items = search rules in (
-      c.in-Ok-open_body.text.items,
-      c.in-Ok-open_body.ensures.bytes,
+pub returns-in-Ok-clause-no_room : goal.returns-in-Ok-clause-no_room
+returns-in-Ok-clause-no_room c alg code full =
+    let told : c.deref.result.now ≡ c.in-Ok.text.items = search rules in (
+      c.in-Ok.text.items,
+      c.in-Ok.ensures.bytes,
       search rules,
-      at_code (λ (a : Alg) (k : KeyPair) (p : Parts). Opens a k p c.in-Ok-open_body.text.items)
-          c.in-Ok.encryptor c.in-Some-split.view c.in-Some.alg alg c.args.material.now c.args.aad.now c.args.body.now c.args.code
-          c.in-Ok.ensures c.in-Some-split.ensures.parts c.in-Some.ensures.value code c.in-Ok-open_body.ensures.found,
+      at_code (λ (a : Alg) (k : KeyPair) (p : Parts). Opens a k p c.in-Ok.text.items)
+          c.new-encryptor.result c.in-Some-split.view c.in-Some.alg alg c.args.material.now c.args.aad.now c.args.body.now c.args.code
+          c.new-encryptor.ensures c.in-Some-split.ensures.parts c.in-Some.ensures.value code c.in-Ok.ensures.found,
     )
 
 pub returns-in-Err-Tampered-clause-tampered : goal.returns-in-Err-Tampered-clause-tampered
 returns-in-Err-Tampered-clause-tampered c alg code is =
     at_code (λ (a : Alg) (k : KeyPair) (p : Parts). (¬ (HasTag a k p)) ⊎ (¬ (Unpads a k p)))
-    c.in-Ok.encryptor c.in-Some-split.view c.in-Some.alg alg c.args.material.now c.args.aad.now c.args.body.now c.args.code
-    c.in-Ok.ensures c.in-Some-split.ensures.parts c.in-Some.ensures.value code (c.in-Err-Tampered.ensures.tampered (ap Err c.in-Err-Tampered.field-0-is))
+    c.new-encryptor.result c.in-Some-split.view c.in-Some.alg alg c.args.material.now c.args.aad.now c.args.body.now c.args.code
+    c.new-encryptor.ensures c.in-Some-split.ensures.parts c.in-Some.ensures.value code (c.in-Err-Tampered.ensures.tampered (ap Err c.in-Err-Tampered.field-0-is))
 
 pub returns-in-Err-Tampered-clause-only : goal.returns-in-Err-Tampered-clause-only
 returns-in-Err-Tampered-clause-only c alg text are fits opens =
     let here = from_code (λ (a : Alg) (k : KeyPair) (p : Parts). Opens a k p text)
-    c.in-Ok.encryptor c.in-Some-split.view c.in-Some.alg alg c.args.material.now c.args.aad.now c.args.body.now c.args.code
-    c.in-Ok.ensures c.in-Some-split.ensures.parts c.in-Some.ensures.value fits.code_is opens in
+    c.new-encryptor.result c.in-Some-split.view c.in-Some.alg alg c.args.material.now c.args.aad.now c.args.body.now c.args.code
+    c.new-encryptor.ensures c.in-Some-split.ensures.parts c.in-Some.ensures.value fits.code_is opens in
     let memory = c.in-Err-Tampered.ensures.only text are here in
     let told = c.in-Err-Tampered.field-0-is in
     search rules

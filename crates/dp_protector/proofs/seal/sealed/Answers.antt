@@ -15,6 +15,6 @@ returns-in-Ok-clause-made g c =
       len_is = c.fill_drawn.ensures.len ∙ sym len;
       bytes = c.fill_drawn.ensures.bytes;
       draws = c.in-Ok.ensures.ok;
-      value_is = sealing-is c.args.ring.now c.args.chain.now c.fill_drawn.new.out c.args.plain.now c.in-Some.found.0.now c.in-Some.found.1 c.in_ok-encryptor.encryptor c.deref.result.now c.in_ok-payload-in-Ok.field-0.items
-          c.in-Some.ensures.some.0 c.in-Some.ensures.some.1 c.in_ok-encryptor.ensures (c.deref.ensures.value ∙ c.in_ok-aad.ensures) c.in_ok-payload-in-Ok.ensures;
+      value_is = sealing-is c.args.ring.now c.args.chain.now c.fill_drawn.new.out c.args.plain.now c.in-Some.found.0.now c.in-Some.found.1 c.new-encryptor.result c.deref.result.now c.in_ok-payload-in-Ok.field-0.items
+          c.in-Some.ensures.some.0 c.in-Some.ensures.some.1 c.new-encryptor.ensures (c.deref.ensures.value ∙ c.in_ok-aad.ensures) c.in_ok-payload-in-Ok.ensures;
     }

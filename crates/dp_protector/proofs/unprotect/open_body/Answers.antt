@@ -14,15 +14,15 @@ returns-in_err-open_body c =
     rw (p.1, p.2) (
     body-refused c.in_err-open_body.field-0.0 _
     (λ tampered.
-    open_body-none c.args.alg c.args.key.now c.args.chain.now c.args.body.now c.in_ok-encryptor.encryptor c.deref.result.now c.in-Some.body
-    c.in_ok-encryptor.ensures (c.deref.ensures.value ∙ c.in_ok-aad.ensures) c.in-Some.ensures.parts c.in-Some.ensures.made (AreBytes-from_fits c.args.body.now c.type_inv.body)
+    open_body-none c.args.alg c.args.key.now c.args.chain.now c.args.body.now c.new-encryptor.result c.deref.result.now c.in-Some.body
+    c.new-encryptor.ensures (c.deref.ensures.value ∙ c.in_ok-aad.ensures) c.in-Some.ensures.parts c.in-Some.ensures.made (AreBytes-from_fits c.args.body.now c.type_inv.body)
     (λ short. some_not_none c.in-Some.body (c.in-Some.ensures.none.1 short))
     (λ text bytes opens. not_memory c.in_err-open_body.field-0.0 tampered (c.in_err-open_body.ensures.only text bytes opens)))
     )
 
 pub returns : goal.returns
 returns c =
-    open_body-is c.args.alg c.args.key.now c.args.chain.now c.args.body.now c.in_ok-encryptor.encryptor c.deref.result.now c.in-Some.body
-    c.in_ok-encryptor.ensures (c.deref.ensures.value ∙ c.in_ok-aad.ensures) c.in-Some.ensures.parts c.in-Some.ensures.made (AreBytes-from_fits c.args.body.now c.type_inv.body)
+    open_body-is c.args.alg c.args.key.now c.args.chain.now c.args.body.now c.new-encryptor.result c.deref.result.now c.in-Some.body
+    c.new-encryptor.ensures (c.deref.ensures.value ∙ c.in_ok-aad.ensures) c.in-Some.ensures.parts c.in-Some.ensures.made (AreBytes-from_fits c.args.body.now c.type_inv.body)
     (λ short. some_not_none c.in-Some.body (c.in-Some.ensures.none.1 short))
     c.in_ok-open_body.field-0.items c.in_ok-open_body.ensures.found c.in_ok-open_body.ensures.bytes

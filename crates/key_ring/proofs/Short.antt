@@ -14,6 +14,7 @@ use Rattle.key_elements.specs.declared.element.Element.TheVariants.{Key, RevokeK
 use Rattle.key_elements.specs.declared.element.KeyRecord.{KeyRecord}
 use Rattle.key_elements.specs.Record.{AreListed, IsElement, IsKey}
 use Rattle.key_ring.specs.declared.keys.RingKey.{RingKey}
+use Rattle.key_ring.specs.declared.listing.TheConstants.{LISTING_LIMIT}
 use Rattle.key_ring.specs.Keys.{records_of, records, same_key, keys_of, ring_key, ring_keys, is_usable}
 use Rattle.key_ring.specs.Listing.{head_line, later, with_mass_date, mass_date, mass_line, state_of, dates_text, key_line, chosen_line, default_line, renew_line, lines}
 use Rattle.key_ring.specs.Ring.{chosen}
@@ -159,7 +160,7 @@ length-renew_line-le false = omega arith
 
 -- the lines of elements that a list can hold, with their keys
 pub length-lines : (es : List Element) (keys : List RingKey) (policy : Policy) (t : ℕ) → AreListed es → t < 2 ^ 64 → keys ≡ ring_keys es
-    → length (lines es keys policy t) < 2400000
+    → length (lines es keys policy t) < LISTING_LIMIT
 unfolding lines ring_keys mass_date
 length-lines es keys policy t is small same =
     let head = head_line es t in

@@ -1,4 +1,5 @@
 use Rattle.std.proofs.Common.{List, ℕ, ◌<◌, length, refl, subst, sym}
+use Rattle.key_ring.specs.declared.listing.TheConstants.{LISTING_LIMIT}
 use Rattle.key_ring.specs.Listing.{lines}
 use Rattle.key_ring.proofs.Short.{length-lines}
 use Rattle.key_ring.proofs.listing.text_of.Goals as goal
@@ -24,5 +25,5 @@ returns-clause-value c =
 
 pub returns-clause-short : goal.returns-clause-short
 returns-clause-short c =
-    subst (λ (bytes : List ℕ). length bytes < 2400000) (sym (returns-clause-value c))
+    subst (λ (bytes : List ℕ). length bytes < LISTING_LIMIT) (sym (returns-clause-value c))
     (length-lines c.args.list.now c.args.keys.now c.args.policy c.args.made_at c.head_line.ensures.listed c.ranges.made_at.fits c.requires.keys)

@@ -7,6 +7,7 @@ mod call;
 mod error;
 mod gather;
 mod host;
+mod lent;
 mod open;
 mod place;
 mod settle;

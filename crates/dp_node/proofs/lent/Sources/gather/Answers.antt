@@ -12,9 +12,9 @@ use Rattle.dp_node.specs.Calls.{terms}
 use Rattle.dp_node.proofs.Books.{chain, as_kind}
 use Rattle.dp_node.proofs.Flights.{BeganKey, began_word, began_key, appends_at, reads_gathers, draw_gathers, plain_gathers, ring_lost, key_gathers, keyed_gathers, keyed_lost, full_gathers, append_gathers}
 use Rattle.dp_node.proofs.Renewal.{made-good}
-use Rattle.dp_node.proofs.gather.gather.Given.{Over}
-use Rattle.dp_node.proofs.gather.gather.Goals.{In_ok-key}
-use Rattle.dp_node.proofs.gather.gather.Goals as goal
+use Rattle.dp_node.proofs.lent.Sources.gather.Given.{Over}
+use Rattle.dp_node.proofs.lent.Sources.gather.Goals.{In_ok-key}
+use Rattle.dp_node.proofs.lent.Sources.gather.Goals as goal
 
 -- a key was made of the list read
 module _ (g : Over) (c : In_ok-key g) where
@@ -47,7 +47,7 @@ module _ (g : Over) (c : In_ok-key g) where
   key_at activation b = key_of_draw b c.args.now activation (c.args.now + c.args.options.now.lifetime) (code_of c.args.options.now.new_alg)
 
   drawn : (host : HostState) → Does (BeganKey told c.args.base.now c.in_ok-list.list c.in_ok-word.word (key_at c.activation_of-activation.result) c.in_ok-key.key)
-      (books c.args.steps.now host (g.R.Repo.store c.args.repo.now) (g.D.Draw.draws c.args.draw.now)) (books c.draw_key.new.steps host (g.R.Repo.store c.read_on.new.repo) (g.D.Draw.draws c.draw_key.new.draw))
+      (books c.args.self.now.steps.now host (g.R.Repo.store c.args.self.now.repo.now) (g.D.Draw.draws c.args.self.now.draw.now)) (books c.draw_key.new.steps host (g.R.Repo.store c.read_on.new.repo) (g.D.Draw.draws c.draw_key.new.draw))
   drawn host =
       let begun = chain (c.in_ok-list.ensures.did host _) (c.in_ok-word.ensures.did host _) (began_word told c.args.base.now c.in_ok-list.list c.in_ok-word.word) in
       let good = made-good (under told) c.in_ok-list.list c.activation_of-activation.result (makes told) activated c.requires.moment in

@@ -206,8 +206,8 @@ impl<W, H: Host<W>, R: Repo<W>, D: Draw> Lent<'_, '_, '_, '_, '_, W, H, R, D> {
         }
     }
 
-    /// Steps 1 to 12.
-    pub(crate) fn ring_for(&mut self, at: At, missing: Option<KeyId>) -> Result<Ring, NodeError>
+    /// Steps 1 to 12: what the function `ring_for` does.
+    pub fn ring_for(&mut self, at: At, missing: Option<KeyId>) -> Result<Ring, NodeError>
         requires moment { at.now ≤ LAST }
         requires free { (H.state self.old.host.now).held ≡ false }
         requires room { self.old.steps.now ≡ [] }

@@ -15,7 +15,7 @@ pub(crate) struct Sources<'w, 'r, 'd, 's, W, R, D> {
 
 /// What a call of a pass is lent: the pass too.
 #[derive(Drop)]
-pub(crate) struct Lent<'w, 'h, 'r, 'd, 's, W, H, R, D> {
+pub struct Lent<'w, 'h, 'r, 'd, 's, W, H, R, D> {
     pub w: &'w mut W,
     pub alloc: Global,
     pub host: &'h mut H,

@@ -17,6 +17,7 @@ mod solo;
 pub use call::{At, ring_for};
 pub use error::{Fork, NodeError, ToldRefused};
 pub use host::{Busy, Host, HostView, NodeFacts};
+pub use lent::Lent;
 pub use open::OpenRefused;
 pub use place::{Placed, revoke, revoke_before, roll};
 pub use solo::Solo;

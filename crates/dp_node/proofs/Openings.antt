@@ -1,8 +1,17 @@
--- Openings that were refused.
-use Rattle.std.proofs.Common.{refl, Err}
+-- Openings, and what those that were refused tell.
+use Rattle.std.proofs.Common.{◌≡◌, ℕ, List, [], refl, true, Result, Err}
+use Rattle.default_key.specs.declared.options.Options.{Options}
+use Rattle.dp_base.specs.Draws.{DrawState}
+use Rattle.key_ring.specs.Ring.{RingOf}
+use Rattle.repo_keeper.specs.Store.{Store}
+use Rattle.ring_world.specs.declared.step.Step.{Step}
+use Rattle.ring_world.specs.Flight.{Gathers, Refusal}
 use Rattle.dp_node.specs.declared.error.NodeError.{NodeError}
 use Rattle.dp_node.specs.declared.error.NodeError.TheVariants as errors
 use Rattle.dp_node.specs.declared.host.NodeFacts.{NodeFacts}
+use Rattle.dp_node.specs.HostState.{HostState}
+use Rattle.dp_node.specs.Books.{books, Does}
+use Rattle.dp_node.specs.Calls.{terms}
 use Rattle.dp_node.specs.Gather.{refusal}
 use Rattle.dp_node.specs.Opening.{Opens, refused_as}
 
@@ -10,3 +19,9 @@ pub opens_refused : (facts : NodeFacts) (why : NodeError) → Opens facts (Err (
 opens_refused facts errors.StoreFault = refl
 opens_refused facts errors.DrawFault = refl
 opens_refused facts _ = tt
+
+-- what an opening did, told of the repository and the draw that it hands back
+pub handed_back : (now : ℕ) (options : Options) (r : Result RingOf Refusal) (host : HostState) (steps : List Step) (from : Store) (drew : DrawState) {s s' : Store} {t t' : DrawState} → s' ≡ s → t' ≡ t
+    → Does (Gathers (terms now options true from.list s.list) [] r) (books [] host from drew) (books steps host s t)
+    → Does (Gathers (terms now options true from.list s'.list) [] r) (books [] host from drew) (books steps host s' t')
+handed_back now options r host steps from drew p q d = rw (p, q) d

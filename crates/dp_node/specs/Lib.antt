@@ -5,3 +5,4 @@ pub mod Gather
 pub mod Calls
 pub mod Places
 pub mod Opening
+pub mod Lent

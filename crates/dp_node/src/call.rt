@@ -13,13 +13,14 @@ ghost use Rattle.ring_world.specs.Way.{CallPath};
 ghost use Rattle.dp_node.specs.HostState.{Steady};
 ghost use Rattle.dp_node.specs.Sight.{sight_of};
 ghost use Rattle.dp_node.specs.Books.{books, Does};
+ghost use Rattle.dp_node.specs.Lent.{SameLoans, books_of};
 ghost use Rattle.dp_node.specs.Gather.{is_memory, refusal, seen};
 ghost use Rattle.dp_node.specs.Calls.{call, terms, is_private};
 
 use crate::error::NodeError;
-use crate::gather::{gather, read_on};
+use crate::gather::read_on;
 use crate::host::{Host, HostView};
-use crate::settle::settle;
+use crate::lent::{Lent, Sources};
 use crate::sight::{Sight, look_once};
 use dp_base::{Draw, Grows, KeyId};
 use key_elements::ElementList;
@@ -52,145 +53,6 @@ fn is_memory(why: &NodeError) -> bool
     }
 }
 
-/// Steps 6 to 10.
-pub(crate) fn flight<W, H: Host<W>, R: Repo<W>, D: Draw>(
-    w: &mut W,
-    alloc: Global,
-    host: &mut H,
-    repo: &mut R,
-    draw: &mut D,
-    at: At,
-    sight: &Sight,
-    steps: &mut StepList,
-) -> Result<Ring, NodeError>
-    requires moment { at.now ≤ LAST }
-    requires held { (H.state host.old).held ≡ true }
-    requires floor { (H.state host.old).floor ≡ sight.now.ring.list }
-    requires looked { (H.state host.old).looked ≡ sight.now.ring }
-    requires in_line { Agree (H.state host.old).own sight.now.ring.list }
-    requires room { length steps.old + 5 ≤ 24 }
-    ensures did { (before : Option (List Element)) → Grows before (R.store repo.old).list →
-        Does (FlightGives (terms at.now (H.state host.old).facts.options false before
-        (R.store repo.new).list) (longer (H.state host.old).own sight.now.ring.list)
-        (sight_of sight.now) (seen result))
-        (books steps.old (H.state host.old) (R.store repo.old) (D.draws draw.old))
-        (books steps.new (H.state host.new) (R.store repo.new) (D.draws draw.new)) }
-    ensures steady { Steady (H.state host.old) (H.state host.new) }
-    ensures extends { IfOk result (λ ring. Extends ring.list (H.state host.old).own) }
-    ensures looked { IfOk result (λ ring. (H.state host.new).looked ≡ ring) }
-    ensures room { length steps.new ≤ length steps.old + 5 }
-{
-    let base = longer(host.own(), sight.ring.list());
-    let options = host.facts().options;
-    match gather(w, alloc, repo, draw, base, at.now, &options, false, steps) {
-        Ok(ring) => {
-            host.publish(w, alloc, ring.share()?)?;
-            steps.push(Step::Publish {
-                front: ring.list().len(),
-                until: ring.until(),
-            });
-            Ok(ring)
-        }
-        Err(why) => {
-            if is_memory(&why) {
-                return Err(why);
-            }
-            let ring = sight.ring.extended(at.now, sight.want)?;
-            let step = Step::Extend {
-                until: ring.until(),
-                excused: ring.excused(),
-            };
-            host.publish(w, alloc, ring)?;
-            steps.push(step);
-            Err(why)
-        }
-    }
-}
-
-// Steps 5 to 10: what the holder of the turn does.
-fn under_turn<W, H: Host<W>, R: Repo<W>, D: Draw>(
-    w: &mut W,
-    alloc: Global,
-    host: &mut H,
-    repo: &mut R,
-    draw: &mut D,
-    at: At,
-    target: u64,
-    steps: &mut StepList,
-) -> Result<Ring, NodeError>
-    requires moment { at.now ≤ LAST }
-    requires held { (H.state host.old).held ≡ true }
-    requires target { target ≡ max at.need (length (H.state host.old).own) }
-    requires room { length steps.old + 7 ≤ 24 }
-    ensures did { (missing : Option KeyId) (before : Option (List Element)) →
-        Grows before (R.store repo.old).list → Does (TurnGives (call at missing
-        (H.state host.old) before (R.store repo.new).list) (seen result))
-        (books steps.old (H.state host.old) (R.store repo.old) (D.draws draw.old))
-        (books steps.new (H.state host.new) (R.store repo.new) (D.draws draw.new)) }
-    ensures steady { Steady (H.state host.old) (H.state host.new) }
-    ensures extends { IfOk result (λ ring. Extends ring.list (H.state host.old).own) }
-    ensures looked { IfOk result (λ ring. (H.state host.new).looked ≡ ring) }
-    ensures room { length steps.new ≤ length steps.old + 7 }
-{
-    let sight = look_once(host, steps)?;
-    if sight.is_enough(at.now, target) {
-        return Ok(sight.ring);
-    }
-    flight(w, alloc, host, repo, draw, at, &sight, steps)
-}
-
-// Steps 1 to 10: the way to a ring.
-fn find<W, H: Host<W>, R: Repo<W>, D: Draw>(
-    w: &mut W,
-    alloc: Global,
-    host: &mut H,
-    repo: &mut R,
-    draw: &mut D,
-    at: At,
-    target: u64,
-    steps: &mut StepList,
-) -> Result<Ring, NodeError>
-    requires moment { at.now ≤ LAST }
-    requires free { (H.state host.old).held ≡ false }
-    requires target { target ≡ max at.need (length (H.state host.old).own) }
-    requires room { steps.old ≡ [] }
-    ensures did { (missing : Option KeyId) → Does (PathGives (call at missing
-        (H.state host.old) (R.store repo.old).list (R.store repo.new).list) (seen result))
-        (books steps.old (H.state host.old) (R.store repo.old) (D.draws draw.old))
-        (books steps.new (H.state host.new) (R.store repo.new) (D.draws draw.new)) }
-    ensures steady { Steady (H.state host.old) (H.state host.new) }
-    ensures extends { IfOk result (λ ring. Extends ring.list (H.state host.old).own) }
-    ensures looked { IfOk result (λ ring. is_private steps.new ≡ false →
-        (H.state host.new).looked ≡ ring) }
-    ensures room { length steps.new ≤ 11 }
-{
-    let sight = look_once(host, steps)?;
-    if sight.is_enough(at.now, target) {
-        return Ok(sight.ring);
-    }
-    match host.try_take() {
-        Err(busy) => {
-            steps.push(Step::Busy {
-                holder: busy.holder,
-            });
-            if target <= sight.ring.list().len() {
-                return Ok(sight.ring);
-            }
-            let base = longer(host.own(), sight.ring.list());
-            let list = read_on(w, alloc, repo, base, true, steps)?;
-            let options = host.facts().options;
-            Ok(Ring::of(alloc, list, at.now, 0, &options)?)
-        }
-        Ok(()) => {
-            steps.push(Step::Take);
-            let found = under_turn(w, alloc, host, repo, draw, at, target, steps);
-            host.give();
-            steps.push(Step::Give);
-            found
-        }
-    }
-}
-
 // The steps of a call that needs a ring. Its target is the greater of what it needs and of what the
 // pass has seen. After each look, a ring whose list differs from what the pass has seen is refused.
 //
@@ -220,6 +82,170 @@ fn find<W, H: Host<W>, R: Repo<W>, D: Draw>(
 //
 // Want of memory while the turn is held gives it back, and publishes nothing more.
 
+impl<W, H: Host<W>, R: Repo<W>, D: Draw> Lent<'_, '_, '_, '_, '_, W, H, R, D> {
+    /// Steps 6 to 10.
+    pub(crate) fn flight(&mut self, at: At, sight: &Sight) -> Result<Ring, NodeError>
+        requires moment { at.now ≤ LAST }
+        requires held { (H.state self.old.host.now).held ≡ true }
+        requires floor { (H.state self.old.host.now).floor ≡ sight.now.ring.list }
+        requires looked { (H.state self.old.host.now).looked ≡ sight.now.ring }
+        requires in_line { Agree (H.state self.old.host.now).own sight.now.ring.list }
+        requires room { length self.old.steps.now + 5 ≤ 24 }
+        ensures did { (before : Option (List Element)) →
+            Grows before (R.store self.old.repo.now).list →
+            Does (FlightGives (terms at.now (H.state self.old.host.now).facts.options
+            false before (R.store self.new.repo.now).list) (longer (H.state self.old.host.now).own
+            sight.now.ring.list) (sight_of sight.now) (seen result))
+            (books_of H.state R.store D.draws self.old)
+            (books_of H.state R.store D.draws self.new) }
+        ensures steady { Steady (H.state self.old.host.now) (H.state self.new.host.now) }
+        ensures extends { IfOk result (λ ring. Extends ring.list
+            (H.state self.old.host.now).own) }
+        ensures looked { IfOk result (λ ring. (H.state self.new.host.now).looked ≡ ring) }
+        ensures room { length self.new.steps.now ≤ length self.old.steps.now + 5 }
+        ensures loans { SameLoans self.old self.new }
+    {
+        let alloc = self.alloc;
+        let base = longer(self.host.own(), sight.ring.list());
+        let options = self.host.facts().options;
+        let mut sources = Sources {
+            w: &mut *self.w,
+            alloc,
+            repo: &mut *self.repo,
+            draw: &mut *self.draw,
+            steps: &mut *self.steps,
+        };
+        match sources.gather(base, at.now, &options, false) {
+            Ok(ring) => {
+                self.host.publish(self.w, alloc, ring.share()?)?;
+                self.steps.push(Step::Publish {
+                    front: ring.list().len(),
+                    until: ring.until(),
+                });
+                Ok(ring)
+            }
+            Err(why) => {
+                if is_memory(&why) {
+                    return Err(why);
+                }
+                let ring = sight.ring.extended(at.now, sight.want)?;
+                let step = Step::Extend {
+                    until: ring.until(),
+                    excused: ring.excused(),
+                };
+                self.host.publish(self.w, alloc, ring)?;
+                self.steps.push(step);
+                Err(why)
+            }
+        }
+    }
+
+    // Steps 5 to 10: what the holder of the turn does.
+    fn under_turn(&mut self, at: At, target: u64) -> Result<Ring, NodeError>
+        requires moment { at.now ≤ LAST }
+        requires held { (H.state self.old.host.now).held ≡ true }
+        requires target { target ≡ max at.need (length (H.state self.old.host.now).own) }
+        requires room { length self.old.steps.now + 7 ≤ 24 }
+        ensures did { (missing : Option KeyId) (before : Option (List Element)) →
+            Grows before (R.store self.old.repo.now).list → Does (TurnGives (call at missing
+            (H.state self.old.host.now) before (R.store self.new.repo.now).list) (seen result))
+            (books_of H.state R.store D.draws self.old)
+            (books_of H.state R.store D.draws self.new) }
+        ensures steady { Steady (H.state self.old.host.now) (H.state self.new.host.now) }
+        ensures extends { IfOk result (λ ring. Extends ring.list
+            (H.state self.old.host.now).own) }
+        ensures looked { IfOk result (λ ring. (H.state self.new.host.now).looked ≡ ring) }
+        ensures room { length self.new.steps.now ≤ length self.old.steps.now + 7 }
+        ensures loans { SameLoans self.old self.new }
+    {
+        let sight = look_once(self.host, self.steps)?;
+        if sight.is_enough(at.now, target) {
+            return Ok(sight.ring);
+        }
+        self.flight(at, &sight)
+    }
+
+    // Steps 1 to 10: the way to a ring.
+    fn find(&mut self, at: At, target: u64) -> Result<Ring, NodeError>
+        requires moment { at.now ≤ LAST }
+        requires free { (H.state self.old.host.now).held ≡ false }
+        requires target { target ≡ max at.need (length (H.state self.old.host.now).own) }
+        requires room { self.old.steps.now ≡ [] }
+        ensures did { (missing : Option KeyId) → Does (PathGives (call at missing
+            (H.state self.old.host.now) (R.store self.old.repo.now).list
+            (R.store self.new.repo.now).list) (seen result))
+            (books_of H.state R.store D.draws self.old)
+            (books_of H.state R.store D.draws self.new) }
+        ensures steady { Steady (H.state self.old.host.now) (H.state self.new.host.now) }
+        ensures extends { IfOk result (λ ring. Extends ring.list
+            (H.state self.old.host.now).own) }
+        ensures looked { IfOk result (λ ring. is_private self.new.steps.now ≡ false →
+            (H.state self.new.host.now).looked ≡ ring) }
+        ensures room { length self.new.steps.now ≤ 11 }
+        ensures loans { SameLoans self.old self.new }
+    {
+        let sight = look_once(self.host, self.steps)?;
+        if sight.is_enough(at.now, target) {
+            return Ok(sight.ring);
+        }
+        match self.host.try_take() {
+            Err(busy) => {
+                self.steps.push(Step::Busy {
+                    holder: busy.holder,
+                });
+                if target <= sight.ring.list().len() {
+                    return Ok(sight.ring);
+                }
+                let alloc = self.alloc;
+                let base = longer(self.host.own(), sight.ring.list());
+                let list = read_on(self.w, alloc, self.repo, base, true, self.steps)?;
+                let options = self.host.facts().options;
+                Ok(Ring::of(alloc, list, at.now, 0, &options)?)
+            }
+            Ok(()) => {
+                self.steps.push(Step::Take);
+                let found = self.under_turn(at, target);
+                self.host.give();
+                self.steps.push(Step::Give);
+                found
+            }
+        }
+    }
+
+    /// Steps 1 to 12: what the function `ring_for` does.
+    pub fn ring_for(&mut self, at: At, missing: Option<KeyId>) -> Result<Ring, NodeError>
+        requires moment { at.now ≤ LAST }
+        requires free { (H.state self.old.host.now).held ≡ false }
+        requires room { self.old.steps.now ≡ [] }
+        ensures path { Does (CallPath (call at missing (H.state self.old.host.now)
+            (R.store self.old.repo.now).list (R.store self.new.repo.now).list) (seen result) (H.state self.new.host.now).own)
+            (books [] (H.state self.old.host.now) (R.store self.old.repo.now)
+            (D.draws self.old.draw.now)) (books_of H.state R.store D.draws self.new) }
+        ensures free { (H.state self.new.host.now).held ≡ false }
+        ensures grows { Extends (H.state self.new.host.now).own (H.state self.old.host.now).own }
+        ensures enough { IfOk result (λ ring. at.need ≤ length ring.list) }
+        ensures looked { IfOk result (λ ring. is_private self.new.steps.now ≡ false →
+            (H.state self.new.host.now).looked ≡ ring) }
+        ensures few { length self.new.steps.now ≤ 24 }
+        ensures loans { SameLoans self.old self.new }
+    {
+        let target = at.need.max(self.host.own().len());
+        let found = self.find(at, target)?;
+        let ring = self.settle(at, missing, found)?;
+        let list = ring.list().share()?;
+        self.host.keep(list);
+        self.steps.push(Step::Answer);
+        let have = ring.list().len();
+        if have < at.need {
+            return Err(NodeError::Behind {
+                have,
+                need: at.need,
+            });
+        }
+        Ok(ring)
+    }
+}
+
 /// A ring that isn't older than what the pass has seen, with as many elements as needed. It is made
 /// by a lawful path, whose steps are recorded. Where it should hold the key `missing` and doesn't,
 /// a young node reads once more for it; whether it then holds the key is for the caller to see.
@@ -247,18 +273,13 @@ pub fn ring_for<W, H: Host<W>, R: Repo<W>, D: Draw>(
         (H.state host.new).looked ≡ ring) }
     ensures few { length steps.new ≤ 24 }
 {
-    let target = at.need.max(host.own().len());
-    let found = find(w, alloc, host, repo, draw, at, target, steps)?;
-    let ring = settle(w, alloc, host, repo, draw, at, missing, found, steps)?;
-    let list = ring.list().share()?;
-    host.keep(list);
-    steps.push(Step::Answer);
-    let have = ring.list().len();
-    if have < at.need {
-        return Err(NodeError::Behind {
-            have,
-            need: at.need,
-        });
-    }
-    Ok(ring)
+    let mut lent = Lent {
+        w,
+        alloc,
+        host,
+        repo,
+        draw,
+        steps,
+    };
+    lent.ring_for(at, missing)
 }

@@ -18,9 +18,11 @@ ghost use Rattle.dp_node.specs.declared.error.NodeError.TheVariants.{BadDates};
 ghost use Rattle.dp_node.specs.HostState.{HostState};
 ghost use Rattle.dp_node.specs.Books.{books, Does};
 ghost use Rattle.dp_node.specs.Calls.{terms};
+ghost use Rattle.dp_node.specs.Lent.{SameSources, books_by};
 ghost use Rattle.dp_node.specs.Gather.{IsKeyElement, goes_on, refusal, refused_as, refusal_steps, read_step, seen, Reads, DrawGives, KeyGives, Appends};
 
 use crate::error::NodeError;
+use crate::lent::Sources;
 use default_key::Options;
 use dp_base::{Alg, Draw, Memory};
 use key_elements::{Element, ElementList, MAX_ELEMENTS};
@@ -236,46 +238,51 @@ fn goes_on(opening: bool, why: &NodeError) -> bool
     }
 }
 
-/// Reads on from the base, draws the jitter, and makes a ring; a key is made and appended where one
-/// is due.
-pub(crate) fn gather<W, R: Repo<W>, D: Draw>(
-    w: &mut W,
-    alloc: Global,
-    repo: &mut R,
-    draw: &mut D,
-    base: &ElementList,
-    now: u64,
-    options: &Options,
-    opening: bool,
-    steps: &mut StepList,
-) -> Result<Ring, NodeError>
-    requires room { length steps.old + 4 ≤ 24 }
-    requires moment { now ≤ LAST }
-    ensures did { (host : HostState) (before : Option (List Element)) →
-        Grows before (R.store repo.old).list → Does (Gathers (terms now options.now opening before
-        (R.store repo.new).list) base.now (seen result))
-        (books steps.old host (R.store repo.old) (D.draws draw.old))
-        (books steps.new host (R.store repo.new) (D.draws draw.new)) }
-    ensures room { length steps.new ≤ length steps.old + 4 }
-    ensures extends { IfOk result (λ ring. Extends ring.list base.now) }
-{
-    let list = read_on(w, alloc, repo, base, false, steps)?;
-    let word = draw_word(draw, steps)?;
-    let jitter = jitter_of(word, options);
-    let ring = Ring::of(alloc, list, now, jitter, options)?;
-    if !makes_key(&ring, options) {
-        return Ok(ring);
-    }
-    let activation = activation_of(&ring, now);
-    let expiration = now + options.lifetime;
-    let key = draw_key(draw, now, activation, expiration, options.new_alg, steps)?;
-    match append_on(w, alloc, repo, ring.list(), &key, steps) {
-        Ok(grown) => Ok(Ring::of(alloc, grown, now, jitter, options)?),
-        Err(why) => {
-            if goes_on(opening, &why) {
-                return Ok(ring);
+impl<W, R: Repo<W>, D: Draw> Sources<'_, '_, '_, '_, W, R, D> {
+    /// Reads on from the base, draws the jitter, and makes a ring; a key is made and appended where
+    /// one is due.
+    pub(crate) fn gather(
+        &mut self,
+        base: &ElementList,
+        now: u64,
+        options: &Options,
+        opening: bool,
+    ) -> Result<Ring, NodeError>
+        requires room { length self.old.steps.now + 4 ≤ 24 }
+        requires moment { now ≤ LAST }
+        ensures did { (host : HostState) (before : Option (List Element)) →
+            Grows before (R.store self.old.repo.now).list → Does (Gathers (terms now options.now
+            opening before (R.store self.new.repo.now).list) base.now (seen result))
+            (books_by R.store D.draws host self.old) (books_by R.store D.draws host self.new) }
+        ensures room { length self.new.steps.now ≤ length self.old.steps.now + 4 }
+        ensures extends { IfOk result (λ ring. Extends ring.list base.now) }
+        ensures loans { SameSources self.old self.new }
+    {
+        let list = read_on(self.w, self.alloc, self.repo, base, false, self.steps)?;
+        let word = draw_word(self.draw, self.steps)?;
+        let jitter = jitter_of(word, options);
+        let ring = Ring::of(self.alloc, list, now, jitter, options)?;
+        if !makes_key(&ring, options) {
+            return Ok(ring);
+        }
+        let activation = activation_of(&ring, now);
+        let expiration = now + options.lifetime;
+        let key = draw_key(
+            self.draw,
+            now,
+            activation,
+            expiration,
+            options.new_alg,
+            self.steps,
+        )?;
+        match append_on(self.w, self.alloc, self.repo, ring.list(), &key, self.steps) {
+            Ok(grown) => Ok(Ring::of(self.alloc, grown, now, jitter, options)?),
+            Err(why) => {
+                if goes_on(opening, &why) {
+                    return Ok(ring);
+                }
+                Err(why)
             }
-            Err(why)
         }
     }
 }

@@ -11,8 +11,8 @@ ghost use Rattle.dp_node.specs.Calls.{terms};
 ghost use Rattle.dp_node.specs.Opening.{Opens, first_facts, refused_as};
 
 use crate::error::NodeError;
-use crate::gather::gather;
 use crate::host::NodeFacts;
+use crate::lent::Sources;
 use crate::solo::Solo;
 use default_key::Options;
 use dp_base::{Draw, Memory};
@@ -78,17 +78,14 @@ impl Solo {
     {
         let mut steps = StepList::with_room(alloc)?;
         let base = ElementList::empty();
-        match gather(
-            &mut (),
+        let mut sources = Sources {
+            w: &mut (),
             alloc,
             repo,
             draw,
-            &base,
-            now,
-            &options,
-            true,
-            &mut steps,
-        ) {
+            steps: &mut steps,
+        };
+        match sources.gather(&base, now, &options, true) {
             Ok(ring) => {
                 let facts = NodeFacts {
                     node: 0,

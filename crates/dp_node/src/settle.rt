@@ -9,19 +9,20 @@ ghost use Rattle.repo_keeper.specs.Store.{Grows};
 ghost use Rattle.ring_world.specs.declared.step.TheConstants.{SECOND_TRY_SPAN};
 ghost use Rattle.ring_world.specs.Settle.{reads, any_reads, lacks, lacks_named, misses, SecondGives, SettleGives};
 ghost use Rattle.dp_node.specs.HostState.{HostState, Steady};
-ghost use Rattle.dp_node.specs.Books.{books, Does};
+ghost use Rattle.dp_node.specs.Books.{Does};
+ghost use Rattle.dp_node.specs.Lent.{SameLoans, books_of};
 ghost use Rattle.dp_node.specs.Gather.{seen};
 ghost use Rattle.dp_node.specs.Calls.{call, is_private};
 
-use crate::call::{At, flight};
+use crate::call::At;
 use crate::error::NodeError;
 use crate::host::{Host, HostView, NodeFacts};
+use crate::lent::Lent;
 use crate::sight::look_once;
 use dp_base::{Draw, KeyId};
 use key_ring::Ring;
 use repo_keeper::Repo;
-use ring_world::{SECOND_TRY_SPAN, Step, StepList};
-use std::alloc::Global;
+use ring_world::{SECOND_TRY_SPAN, Step};
 
 // Whether a step read the repository's list.
 fn reads(step: &Step) -> bool
@@ -73,80 +74,82 @@ fn misses(facts: &NodeFacts, at: At, missing: Option<KeyId>, found: &Ring, steps
     lacks_named(found, missing) && is_young(facts, at.now) && !any_reads(steps)
 }
 
-// The try itself: what the holder of the turn does.
-fn fly_again<W, H: Host<W>, R: Repo<W>, D: Draw>(
-    w: &mut W,
-    alloc: Global,
-    host: &mut H,
-    repo: &mut R,
-    draw: &mut D,
-    at: At,
-    steps: &mut StepList,
-) -> Result<Ring, NodeError>
-    requires moment { at.now ≤ LAST }
-    requires held { (H.state host.old).held ≡ true }
-    requires room { length steps.old + 7 ≤ 24 }
-    ensures did { (missing : Option KeyId) (before : Option (List Element)) →
-        Grows before (R.store repo.old).list → Does (SecondGives (call at missing
-        (H.state host.old) before (R.store repo.new).list) (seen result))
-        (books steps.old (H.state host.old) (R.store repo.old) (D.draws draw.old))
-        (books steps.new (H.state host.new) (R.store repo.new) (D.draws draw.new)) }
-    ensures steady { Steady (H.state host.old) (H.state host.new) }
-    ensures extends { IfOk result (λ ring. Extends ring.list (H.state host.old).own) }
-    ensures looked { IfOk result (λ ring. (H.state host.new).looked ≡ ring) }
-    ensures room { length steps.new ≤ length steps.old + 7 }
-{
-    let sight = look_once(host, steps)?;
-    flight(w, alloc, host, repo, draw, at, &sight, steps)
-}
-
-/// Step 12: the ring that was found, or that of one more try for a key that it lacks.
-pub(crate) fn settle<W, H: Host<W>, R: Repo<W>, D: Draw>(
-    w: &mut W,
-    alloc: Global,
-    host: &mut H,
-    repo: &mut R,
-    draw: &mut D,
-    at: At,
-    missing: Option<KeyId>,
-    found: Ring,
-    steps: &mut StepList,
-) -> Result<Ring, NodeError>
-    requires moment { at.now ≤ LAST }
-    requires free { (H.state host.old).held ≡ false }
-    requires extends { Extends found.list (H.state host.old).own }
-    requires looked { is_private steps.old ≡ false → (H.state host.old).looked ≡ found }
-    requires room { length steps.old + 9 ≤ 24 }
-    ensures did { (before : Option (List Element)) → Grows before (R.store repo.old).list →
-        Does (SettleGives (call at missing (H.state host.old) before (R.store repo.new).list)
-        steps.old found (seen result))
-        (books steps.old (H.state host.old) (R.store repo.old) (D.draws draw.old))
-        (books steps.new (H.state host.new) (R.store repo.new) (D.draws draw.new)) }
-    ensures kept { (before : Option (List Element)) → misses (call at missing
-        (H.state host.old) before (R.store repo.new).list) steps.old found ≡ false →
-        repo.new ≡ repo.old }
-    ensures steady { Steady (H.state host.old) (H.state host.new) }
-    ensures extends { IfOk result (λ ring. Extends ring.list (H.state host.old).own) }
-    ensures looked { IfOk result (λ ring. is_private steps.new ≡ false →
-        (H.state host.new).looked ≡ ring) }
-    ensures room { length steps.new ≤ length steps.old + 9 }
-{
-    if !misses(host.facts(), at, missing, &found, steps.as_slice()) {
-        return Ok(found);
+impl<W, H: Host<W>, R: Repo<W>, D: Draw> Lent<'_, '_, '_, '_, '_, W, H, R, D> {
+    // The try itself: what the holder of the turn does.
+    fn fly_again(&mut self, at: At) -> Result<Ring, NodeError>
+        requires moment { at.now ≤ LAST }
+        requires held { (H.state self.old.host.now).held ≡ true }
+        requires room { length self.old.steps.now + 7 ≤ 24 }
+        ensures did { (missing : Option KeyId) (before : Option (List Element)) →
+            Grows before (R.store self.old.repo.now).list → Does (SecondGives (call at missing
+            (H.state self.old.host.now) before (R.store self.new.repo.now).list) (seen result))
+            (books_of H.state R.store D.draws self.old)
+            (books_of H.state R.store D.draws self.new) }
+        ensures steady { Steady (H.state self.old.host.now) (H.state self.new.host.now) }
+        ensures extends { IfOk result (λ ring. Extends ring.list
+            (H.state self.old.host.now).own) }
+        ensures looked { IfOk result (λ ring. (H.state self.new.host.now).looked ≡ ring) }
+        ensures room { length self.new.steps.now ≤ length self.old.steps.now + 7 }
+        ensures loans { SameLoans self.old self.new }
+    {
+        let sight = look_once(self.host, self.steps)?;
+        self.flight(at, &sight)
     }
-    match host.try_take() {
-        Err(busy) => {
-            steps.push(Step::Busy {
-                holder: busy.holder,
-            });
-            Ok(found)
+
+    /// Step 12: the ring that was found, or that of one more try for a key that it lacks.
+    pub(crate) fn settle(
+        &mut self,
+        at: At,
+        missing: Option<KeyId>,
+        found: Ring,
+    ) -> Result<Ring, NodeError>
+        requires moment { at.now ≤ LAST }
+        requires free { (H.state self.old.host.now).held ≡ false }
+        requires extends { Extends found.list (H.state self.old.host.now).own }
+        requires looked { is_private self.old.steps.now ≡ false →
+            (H.state self.old.host.now).looked ≡ found }
+        requires room { length self.old.steps.now + 9 ≤ 24 }
+        ensures did { (before : Option (List Element)) →
+            Grows before (R.store self.old.repo.now).list → Does (SettleGives (call at missing
+            (H.state self.old.host.now) before (R.store self.new.repo.now).list)
+            self.old.steps.now found (seen result))
+            (books_of H.state R.store D.draws self.old)
+            (books_of H.state R.store D.draws self.new) }
+        ensures kept { (before : Option (List Element)) → misses (call at missing
+            (H.state self.old.host.now) before (R.store self.new.repo.now).list)
+            self.old.steps.now found ≡ false →
+            self.new.repo.now ≡ self.old.repo.now }
+        ensures steady { Steady (H.state self.old.host.now) (H.state self.new.host.now) }
+        ensures extends { IfOk result (λ ring. Extends ring.list
+            (H.state self.old.host.now).own) }
+        ensures looked { IfOk result (λ ring. is_private self.new.steps.now ≡ false →
+            (H.state self.new.host.now).looked ≡ ring) }
+        ensures room { length self.new.steps.now ≤ length self.old.steps.now + 9 }
+        ensures loans { SameLoans self.old self.new }
+    {
+        if !misses(
+            self.host.facts(),
+            at,
+            missing,
+            &found,
+            self.steps.as_slice(),
+        ) {
+            return Ok(found);
         }
-        Ok(()) => {
-            steps.push(Step::Take);
-            let again = fly_again(w, alloc, host, repo, draw, at, steps);
-            host.give();
-            steps.push(Step::Give);
-            again
+        match self.host.try_take() {
+            Err(busy) => {
+                self.steps.push(Step::Busy {
+                    holder: busy.holder,
+                });
+                Ok(found)
+            }
+            Ok(()) => {
+                self.steps.push(Step::Take);
+                let again = self.fly_again(at);
+                self.host.give();
+                self.steps.push(Step::Give);
+                again
+            }
         }
     }
 }

@@ -1,4 +1,4 @@
-use Rattle.std.proofs.Common.{refl, [], ◌∷◌, Ok, Err, None}
+use Rattle.std.proofs.Common.{rules, refl, [], ◌∷◌, Ok, Err, None}
 use Rattle.std.proofs.lemmas.Result.{err_from_is_err_and}
 use Rattle.ring_world.specs.declared.step.Step.TheVariants.{ReadFailed}
 use Rattle.ring_world.specs.Course.{idle}
@@ -7,7 +7,7 @@ use Rattle.dp_node.specs.Gather.{refusal}
 use Rattle.dp_node.specs.Opening.{first_facts}
 use Rattle.dp_node.proofs.Books.{exactly, nothing, Grows-refl}
 use Rattle.dp_node.proofs.Fronts.{front}
-use Rattle.dp_node.proofs.Openings.{opens_refused}
+use Rattle.dp_node.proofs.Openings.{opens_refused, handed_back}
 use Rattle.dp_node.proofs.solo.Solo.open.Goals as goal
 
 pub returns-in_err-steps : goal.returns-in_err-steps
@@ -28,9 +28,9 @@ returns-in_err-over-in-Ok g c =
     record {
       opened = (
         Ok c.in-Ok.ring,
-        c.gather.new.steps,
+        c.gather.new.self.steps.now,
         rw (p.1, p.2) tt,
-        λ host. rw (c.in_ok-steps.ensures, c.empty-base.ensures) at (c.in-Ok.ensures.did host (g.R.Repo.store c.args.repo.now).list (Grows-refl _)),
+        λ host. handed_back c.args.now c.args.options (Ok c.in-Ok.ring) host _ _ _ (search rules) (search rules) (rw (c.in_ok-steps.ensures, c.empty-base.ensures) at (c.in-Ok.ensures.did host (g.R.Repo.store c.args.repo.now).list (Grows-refl _))),
       );
     }
 
@@ -38,9 +38,9 @@ pub returns-in-Ok : goal.returns-in-Ok
 returns-in-Ok g c = record {
   opened = (
     Ok c.in-Ok.ring,
-    c.gather.new.steps,
+    c.gather.new.self.steps.now,
     (c.in-Ok.ring, refl, c.in_ok-over-in-Ok.ensures),
-    λ host. rw (c.in_ok-steps.ensures, c.empty-base.ensures) at (c.in-Ok.ensures.did host (g.R.Repo.store c.args.repo.now).list (Grows-refl _)),
+    λ host. handed_back c.args.now c.args.options (Ok c.in-Ok.ring) host _ _ _ (search rules) (search rules) (rw (c.in_ok-steps.ensures, c.empty-base.ensures) at (c.in-Ok.ensures.did host (g.R.Repo.store c.args.repo.now).list (Grows-refl _))),
   );
 }
 
@@ -48,8 +48,8 @@ pub returns : goal.returns
 returns g c = record {
   opened = (
     Err (refusal c.in-Err.why),
-    c.gather.new.steps,
+    c.gather.new.self.steps.now,
     rw c.refused_as.ensures (opens_refused (first_facts c.args.now c.args.options) c.in-Err.why),
-    λ host. rw (c.in_ok-steps.ensures, c.empty-base.ensures) at (c.in-Err.ensures.did host (g.R.Repo.store c.args.repo.now).list (Grows-refl _)),
+    λ host. handed_back c.args.now c.args.options (Err (refusal c.in-Err.why)) host _ _ _ (search rules) (search rules) (rw (c.in_ok-steps.ensures, c.empty-base.ensures) at (c.in-Err.ensures.did host (g.R.Repo.store c.args.repo.now).list (Grows-refl _))),
   );
 }

@@ -12,12 +12,12 @@ use Rattle.dp_node.proofs.Flights.{flight_cut, flight_whole}
 use Rattle.dp_node.proofs.Courses.{longer_extends_list, longer_extends_own}
 use Rattle.dp_node.proofs.HostSteps.{did_publish, did_extend, before_last}
 use Rattle.dp_node.proofs.Refused.{not_memory, is_memory-true, ring_no_memory}
-use Rattle.dp_node.proofs.call.flight.Goals as goal
+use Rattle.dp_node.proofs.lent.Lent.flight.Goals as goal
 
 pub returns-in_err-share-in-Ok-clause-did : goal.returns-in_err-share-in-Ok-clause-did
 returns-in_err-share-in-Ok-clause-did g c = λ before since.
-    let h = g.H.HostView.state c.args.host.now in
-    let t = terms c.args.at.now h.facts.options false before (g.R.Repo.store c.gather.new.repo).list in
+    let h = g.H.HostView.state c.args.self.now.host.now in
+    let t = terms c.args.at.now h.facts.options false before (g.R.Repo.store c.gather.new.self.repo.now).list in
     let s = sight_of c.args.sight.now in
     let p = err_from_is_err_and c.from_residual.result c.from_residual.ensures.1 in
     let d = rw (c.longer-base.ensures, c.own.ensures, c.list.ensures, c.facts.ensures) at (c.in-Ok.ensures.did h before since) in
@@ -25,14 +25,14 @@ returns-in_err-share-in-Ok-clause-did g c = λ before since.
 
 pub publish-requires-clause-extends : goal.publish-requires-clause-extends
 publish-requires-clause-extends g c =
-    let h = g.H.HostView.state c.args.host.now in
+    let h = g.H.HostView.state c.args.self.now.host.now in
     let e = rw (c.longer-base.ensures, c.own.ensures, c.list.ensures) at c.in-Ok.ensures.extends in
     rw (c.in_ok-share-in-Ok.ensures, c.requires.floor) (IsFrontOf-trans c.args.sight.now.ring.list _ c.in-Ok.ring.list (longer_extends_list h.own c.args.sight.now.ring.list c.requires.in_line) e)
 
 pub returns-in_err-publish-in-Ok-clause-did : goal.returns-in_err-publish-in-Ok-clause-did
 returns-in_err-publish-in-Ok-clause-did g c = λ before since.
-    let h = g.H.HostView.state c.args.host.now in
-    let t = terms c.args.at.now h.facts.options false before (g.R.Repo.store c.gather.new.repo).list in
+    let h = g.H.HostView.state c.args.self.now.host.now in
+    let t = terms c.args.at.now h.facts.options false before (g.R.Repo.store c.gather.new.self.repo.now).list in
     let s = sight_of c.args.sight.now in
     let p = err_from_is_err_and c.from_residual-in_err-publish-in-Ok.result c.from_residual-in_err-publish-in-Ok.ensures.1 in
     let d = rw (c.longer-base.ensures, c.own.ensures, c.list.ensures, c.facts.ensures) at (c.in-Ok.ensures.did h before since) in
@@ -40,16 +40,16 @@ returns-in_err-publish-in-Ok-clause-did g c = λ before since.
 
 pub returns-then-is_memory-clause-did : goal.returns-then-is_memory-clause-did
 returns-then-is_memory-clause-did g c = λ before since.
-    let h = g.H.HostView.state c.args.host.now in
-    let t = terms c.args.at.now h.facts.options false before (g.R.Repo.store c.gather.new.repo).list in
+    let h = g.H.HostView.state c.args.self.now.host.now in
+    let t = terms c.args.at.now h.facts.options false before (g.R.Repo.store c.gather.new.self.repo.now).list in
     let s = sight_of c.args.sight.now in
     let d = rw (c.longer-base.ensures, c.own.ensures, c.list.ensures, c.facts.ensures) at (c.in-Err.ensures.did h before since) in
     rw (is_memory-true (refusal c.in-Err.why) (sym c.is_memory.ensures ∙ c.if-is_memory.true)) (as_kind d (flight_cut t (longer h.own s.ring.list) s (Err (refusal c.in-Err.why))))
 
 pub returns-in_err-ring-in-Err-clause-did : goal.returns-in_err-ring-in-Err-clause-did
 returns-in_err-ring-in-Err-clause-did g c = λ before since.
-    let h = g.H.HostView.state c.args.host.now in
-    let t = terms c.args.at.now h.facts.options false before (g.R.Repo.store c.gather.new.repo).list in
+    let h = g.H.HostView.state c.args.self.now.host.now in
+    let t = terms c.args.at.now h.facts.options false before (g.R.Repo.store c.gather.new.self.repo.now).list in
     let s = sight_of c.args.sight.now in
     let p = err_from_is_err_and c.from_residual-in_err-ring-in-Err.result c.from_residual-in_err-ring-in-Err.ensures.1 in
     let d = rw (c.longer-base.ensures, c.own.ensures, c.list.ensures, c.facts.ensures) at (c.in-Err.ensures.did h before since) in
@@ -57,8 +57,8 @@ returns-in_err-ring-in-Err-clause-did g c = λ before since.
 
 pub returns-in_err-publish-in-Err-clause-did : goal.returns-in_err-publish-in-Err-clause-did
 returns-in_err-publish-in-Err-clause-did g c = λ before since.
-    let h = g.H.HostView.state c.args.host.now in
-    let t = terms c.args.at.now h.facts.options false before (g.R.Repo.store c.gather.new.repo).list in
+    let h = g.H.HostView.state c.args.self.now.host.now in
+    let t = terms c.args.at.now h.facts.options false before (g.R.Repo.store c.gather.new.self.repo.now).list in
     let s = sight_of c.args.sight.now in
     let p = err_from_is_err_and c.from_residual-in_err-publish-in-Err.result c.from_residual-in_err-publish-in-Err.ensures.1 in
     let d = rw (c.longer-base.ensures, c.own.ensures, c.list.ensures, c.facts.ensures) at (c.in-Err.ensures.did h before since) in
@@ -66,8 +66,8 @@ returns-in_err-publish-in-Err-clause-did g c = λ before since.
 
 pub returns-in_ok-publish-in-Ok-clause-did : goal.returns-in_ok-publish-in-Ok-clause-did
 returns-in_ok-publish-in-Ok-clause-did g c = λ before since.
-    let h = g.H.HostView.state c.args.host.now in
-    let t = terms c.args.at.now h.facts.options false before (g.R.Repo.store c.gather.new.repo).list in
+    let h = g.H.HostView.state c.args.self.now.host.now in
+    let t = terms c.args.at.now h.facts.options false before (g.R.Repo.store c.gather.new.self.repo.now).list in
     let s = sight_of c.args.sight.now in
     let d = rw (c.longer-base.ensures, c.own.ensures, c.list.ensures, c.facts.ensures) at (c.in-Ok.ensures.did h before since) in
     let r = c.in-Ok.ring in
@@ -79,14 +79,14 @@ returns-in_ok-publish-in-Ok-clause-did g c = λ before since.
 
 pub returns-in_ok-publish-in-Ok-clause-extends : goal.returns-in_ok-publish-in-Ok-clause-extends
 returns-in_ok-publish-in-Ok-clause-extends g c =
-    let h = g.H.HostView.state c.args.host.now in
+    let h = g.H.HostView.state c.args.self.now.host.now in
     let e = rw (c.longer-base.ensures, c.own.ensures, c.list.ensures) at c.in-Ok.ensures.extends in
     IsFrontOf-trans h.own _ c.in-Ok.ring.list (longer_extends_own h.own c.args.sight.now.ring.list c.requires.in_line) e
 
 pub returns-in_ok-publish-in-Err-clause-did : goal.returns-in_ok-publish-in-Err-clause-did
 returns-in_ok-publish-in-Err-clause-did g c = λ before since.
-    let h = g.H.HostView.state c.args.host.now in
-    let t = terms c.args.at.now h.facts.options false before (g.R.Repo.store c.gather.new.repo).list in
+    let h = g.H.HostView.state c.args.self.now.host.now in
+    let t = terms c.args.at.now h.facts.options false before (g.R.Repo.store c.gather.new.self.repo.now).list in
     let s = sight_of c.args.sight.now in
     let d = rw (c.longer-base.ensures, c.own.ensures, c.list.ensures, c.facts.ensures) at (c.in-Err.ensures.did h before since) in
     let r = extended s.ring c.args.at.now s.want in

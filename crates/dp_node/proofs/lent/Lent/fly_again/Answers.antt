@@ -9,18 +9,18 @@ use Rattle.dp_node.specs.Calls.{call, terms}
 use Rattle.dp_node.proofs.Books.{after}
 use Rattle.dp_node.proofs.Settles.{second_flies}
 use Rattle.dp_node.proofs.HostSteps.{did_sight, second_refused}
-use Rattle.dp_node.proofs.settle.fly_again.Goals as goal
+use Rattle.dp_node.proofs.lent.Lent.fly_again.Goals as goal
 
 pub returns-in_err-sight-clause-did : goal.returns-in_err-sight-clause-did
 returns-in_err-sight-clause-did g c = λ missing before since.
     let p = err_from_is_err_and c.from_residual.result c.from_residual.ensures.1 in
-    rw (p.1, p.2) (second_refused (call c.args.at missing (g.H.HostView.state c.args.host.now) before (g.R.Repo.store c.args.repo.now).list) _ _ _ _ _ _ refl refl c.in_err-sight.field-0.0 c.in_err-sight.ensures.err)
+    rw (p.1, p.2) (second_refused (call c.args.at missing (g.H.HostView.state c.args.self.now.host.now) before (g.R.Repo.store c.args.self.now.repo.now).list) _ _ _ _ _ _ refl refl c.in_err-sight.field-0.0 c.in_err-sight.ensures.err)
 
 pub returns-clause-did : goal.returns-clause-did
 returns-clause-did g c = λ missing before since.
     let s = sight_of c.in_ok-sight.sight in
-    let h = g.H.HostView.state c.args.host.now in
-    let told = (g.R.Repo.store c.flight.new.repo).list in
+    let h = g.H.HostView.state c.args.self.now.host.now in
+    let told = (g.R.Repo.store c.flight.new.self.repo.now).list in
     let x = call c.args.at missing h before told in
     let r = seen c.flight.result in
     after (sight_steps s) (s.ring ∷ []) (did_sight _ _ _ _ _ _ s c.in_ok-sight.ensures.steps c.in_ok-sight.ensures.shows c.in_ok-sight.ensures.host) (c.flight.ensures.did before since)

@@ -8,21 +8,21 @@ use Rattle.dp_node.proofs.Books.{before, as_kind}
 use Rattle.dp_node.proofs.Courses.{private_front}
 use Rattle.dp_node.proofs.Ways.{path_failed, settled_does, call_answered, call_refused, call_lost, answered-enough, answered-behind}
 use Rattle.dp_node.proofs.HostSteps.{did_answer}
-use Rattle.dp_node.proofs.call.ring_for.Goals as goal
+use Rattle.dp_node.proofs.lent.Lent.ring_for.Goals as goal
 
 pub returns-in_err-found-clause-path : goal.returns-in_err-found-clause-path
 returns-in_err-found-clause-path g c =
-    let x = call c.args.at c.args.missing (g.H.HostView.state c.args.host.now) (g.R.Repo.store c.args.repo.now).list (g.R.Repo.store c.find.new.repo).list in
+    let x = call c.args.at c.args.missing (g.H.HostView.state c.args.self.now.host.now) (g.R.Repo.store c.args.self.now.repo.now).list (g.R.Repo.store c.find.new.self.repo.now).list in
     let p = err_from_is_err_and c.from_residual.result c.from_residual.ensures.1 in
     let d = rw c.requires.room at (c.in_err-found.ensures.did c.args.missing) in
     rw (p.1, p.2, c.in_err-found.ensures.steady.0) (as_kind d (path_failed x (refusal c.in_err-found.field-0.0)))
 
 pub returns-in_err-ring-clause-path : goal.returns-in_err-ring-clause-path
 returns-in_err-ring-clause-path g c =
-    let h = g.H.HostView.state c.args.host.now in
-    let first = (g.R.Repo.store c.args.repo.now).list in
-    let told = (g.R.Repo.store c.find.new.repo).list in
-    let told' = (g.R.Repo.store c.settle.new.repo).list in
+    let h = g.H.HostView.state c.args.self.now.host.now in
+    let first = (g.R.Repo.store c.args.self.now.repo.now).list in
+    let told = (g.R.Repo.store c.find.new.self.repo.now).list in
+    let told' = (g.R.Repo.store c.settle.new.self.repo.now).list in
     let x = call c.args.at c.args.missing h first told' in
     let d = rw c.requires.room at (c.in_ok-found.ensures.did c.args.missing) in
     let way = settled_does c.args.at c.args.missing first told told' h _ _ _ _ _ _ _ _ _ _ c.in_ok-found.found (Err (refusal c.in_err-ring.field-0.0)) d (c.in_err-ring.ensures.did first d.recorded.store.list) c.in_ok-found.ensures.steady.0 (λ m. ap (λ r. (g.R.Repo.store r).list) (c.in_err-ring.ensures.kept first m)) in
@@ -31,10 +31,10 @@ returns-in_err-ring-clause-path g c =
 
 pub returns-in_err-list-clause-path : goal.returns-in_err-list-clause-path
 returns-in_err-list-clause-path g c =
-    let h = g.H.HostView.state c.args.host.now in
-    let first = (g.R.Repo.store c.args.repo.now).list in
-    let told = (g.R.Repo.store c.find.new.repo).list in
-    let told' = (g.R.Repo.store c.settle.new.repo).list in
+    let h = g.H.HostView.state c.args.self.now.host.now in
+    let first = (g.R.Repo.store c.args.self.now.repo.now).list in
+    let told = (g.R.Repo.store c.find.new.self.repo.now).list in
+    let told' = (g.R.Repo.store c.settle.new.self.repo.now).list in
     let x = call c.args.at c.args.missing h first told' in
     let d = rw c.requires.room at (c.in_ok-found.ensures.did c.args.missing) in
     let way = settled_does c.args.at c.args.missing first told told' h _ _ _ _ _ _ _ _ _ _ c.in_ok-found.found (Ok c.in_ok-ring.ring) d (c.in_ok-ring.ensures.did first d.recorded.store.list) c.in_ok-found.ensures.steady.0 (λ m. ap (λ r. (g.R.Repo.store r).list) (c.in_ok-ring.ensures.kept first m)) in
@@ -43,10 +43,10 @@ returns-in_err-list-clause-path g c =
 
 pub returns-then-have-at-clause-path : goal.returns-then-have-at-clause-path
 returns-then-have-at-clause-path g c =
-    let h = g.H.HostView.state c.args.host.now in
-    let first = (g.R.Repo.store c.args.repo.now).list in
-    let told = (g.R.Repo.store c.find.new.repo).list in
-    let told' = (g.R.Repo.store c.settle.new.repo).list in
+    let h = g.H.HostView.state c.args.self.now.host.now in
+    let first = (g.R.Repo.store c.args.self.now.repo.now).list in
+    let told = (g.R.Repo.store c.find.new.self.repo.now).list in
+    let told' = (g.R.Repo.store c.settle.new.self.repo.now).list in
     let x = call c.args.at c.args.missing h first told' in
     let d = rw c.requires.room at (c.in_ok-found.ensures.did c.args.missing) in
     let way = settled_does c.args.at c.args.missing first told told' h _ _ _ _ _ _ _ _ _ _ c.in_ok-found.found (Ok c.in_ok-ring.ring) d (c.in_ok-ring.ensures.did first d.recorded.store.list) c.in_ok-found.ensures.steady.0 (λ m. ap (λ r. (g.R.Repo.store r).list) (c.in_ok-ring.ensures.kept first m)) in
@@ -58,10 +58,10 @@ returns-then-have-at-clause-path g c =
 
 pub returns-clause-path : goal.returns-clause-path
 returns-clause-path g c =
-    let h = g.H.HostView.state c.args.host.now in
-    let first = (g.R.Repo.store c.args.repo.now).list in
-    let told = (g.R.Repo.store c.find.new.repo).list in
-    let told' = (g.R.Repo.store c.settle.new.repo).list in
+    let h = g.H.HostView.state c.args.self.now.host.now in
+    let first = (g.R.Repo.store c.args.self.now.repo.now).list in
+    let told = (g.R.Repo.store c.find.new.self.repo.now).list in
+    let told' = (g.R.Repo.store c.settle.new.self.repo.now).list in
     let x = call c.args.at c.args.missing h first told' in
     let d = rw c.requires.room at (c.in_ok-found.ensures.did c.args.missing) in
     let way = settled_does c.args.at c.args.missing first told told' h _ _ _ _ _ _ _ _ _ _ c.in_ok-found.found (Ok c.in_ok-ring.ring) d (c.in_ok-ring.ensures.did first d.recorded.store.list) c.in_ok-found.ensures.steady.0 (λ m. ap (λ r. (g.R.Repo.store r).list) (c.in_ok-ring.ensures.kept first m)) in
@@ -73,4 +73,4 @@ returns-clause-path g c =
 
 pub returns-clause-looked : goal.returns-clause-looked
 returns-clause-looked g c = λ h.
-    ap (λ (s : HostState). s.looked) c.keep.ensures ∙ c.in_ok-ring.ensures.looked (private_front c.settle.new.steps (Answer ∷ []) c.push.new.self c.push.ensures h)
+    ap (λ (s : HostState). s.looked) c.keep.ensures ∙ c.in_ok-ring.ensures.looked (private_front c.settle.new.self.steps.now (Answer ∷ []) c.push.new.self c.push.ensures h)

@@ -13,9 +13,9 @@ use Rattle.dp_node.specs.Calls.{terms}
 use Rattle.dp_node.proofs.Books.{chain, as_kind, Grows-trans}
 use Rattle.dp_node.proofs.Flights.{BeganKey, began_word, began_key, appends_at, reads_gathers, draw_gathers, plain_gathers, ring_lost, key_gathers, keyed_gathers, keyed_lost, full_gathers, append_gathers}
 use Rattle.dp_node.proofs.Renewal.{made-good}
-use Rattle.dp_node.proofs.gather.gather.Given.{Over}
-use Rattle.dp_node.proofs.gather.gather.Goals.{In_ok-key}
-use Rattle.dp_node.proofs.gather.gather.Goals as goal
+use Rattle.dp_node.proofs.lent.Sources.gather.Given.{Over}
+use Rattle.dp_node.proofs.lent.Sources.gather.Goals.{In_ok-key}
+use Rattle.dp_node.proofs.lent.Sources.gather.Goals as goal
 
 -- a key was made of the list read
 module _ (g : Over) (c : In_ok-key g) (before : Option (List Element)) where
@@ -48,15 +48,15 @@ module _ (g : Over) (c : In_ok-key g) (before : Option (List Element)) where
   key_at activation b = key_of_draw b c.args.now activation (c.args.now + c.args.options.now.lifetime) (code_of c.args.options.now.new_alg)
 
   drawn : (host : HostState) → Does (BeganKey told c.args.base.now c.in_ok-list.list c.in_ok-word.word (key_at c.activation_of-activation.result) c.in_ok-key.key)
-      (books c.args.steps.now host (g.R.Repo.store c.args.repo.now) (g.D.Draw.draws c.args.draw.now)) (books c.draw_key.new.steps host (g.R.Repo.store c.read_on.new.repo) (g.D.Draw.draws c.draw_key.new.draw))
+      (books c.args.self.now.steps.now host (g.R.Repo.store c.args.self.now.repo.now) (g.D.Draw.draws c.args.self.now.draw.now)) (books c.draw_key.new.steps host (g.R.Repo.store c.read_on.new.repo) (g.D.Draw.draws c.draw_key.new.draw))
   drawn host =
       let begun = chain (c.in_ok-list.ensures.did host _) (c.in_ok-word.ensures.did host _) (began_word told c.args.base.now c.in_ok-list.list c.in_ok-word.word) in
       let good = made-good (under told) c.in_ok-list.list c.activation_of-activation.result (makes told) activated c.requires.moment in
       chain begun (c.in_ok-key.ensures.did good host _) (began_key told c.args.base.now c.in_ok-list.list c.in_ok-word.word (key_at c.activation_of-activation.result) c.in_ok-key.key)
 
-  since_read : HostState → Grows before (g.R.Repo.store c.args.repo.now).list → Grows before told
+  since_read : HostState → Grows before (g.R.Repo.store c.args.self.now.repo.now).list → Grows before told
   since_read host since =
-      Grows-trans before _ told since (c.in_ok-list.ensures.did host (g.D.Draw.draws c.args.draw.now)).recorded.store.list
+      Grows-trans before _ told since (c.in_ok-list.ensures.did host (g.D.Draw.draws c.args.self.now.draw.now)).recorded.store.list
 
   -- it is the one that the paths make
   made : (last : Option (List Element)) (b : List ℕ) → c.in_ok-key.key ≡ key_at c.activation_of-activation.result b → c.in_ok-key.key ≡ new_key (under last) c.in_ok-list.list b
@@ -66,7 +66,7 @@ pub returns-in_err-list-clause-did : goal.returns-in_err-list-clause-did
 returns-in_err-list-clause-did g c = λ host before since.
     let t = terms c.args.now c.args.options.now c.args.opening before (g.R.Repo.store c.read_on.new.repo).list in
     let p = err_from_is_err_and c.from_residual.result c.from_residual.ensures.1 in
-    let d = c.in_err-list.ensures.did host (g.D.Draw.draws c.args.draw.now) in
+    let d = c.in_err-list.ensures.did host (g.D.Draw.draws c.args.self.now.draw.now) in
     rw (p.1, p.2) (as_kind d (reads_gathers t c.args.base.now (Grows-trans before _ _ since d.recorded.store.list) (refusal c.in_err-list.field-0.0)))
 
 pub returns-in_err-word-clause-did : goal.returns-in_err-word-clause-did
@@ -74,7 +74,7 @@ returns-in_err-word-clause-did g c = λ host before since.
     let told = (g.R.Repo.store c.read_on.new.repo).list in
     let t = terms c.args.now c.args.options.now c.args.opening before told in
     let p = err_from_is_err_and c.from_residual-in_err-word.result c.from_residual-in_err-word.ensures.1 in
-    let d = c.in_ok-list.ensures.did host (g.D.Draw.draws c.args.draw.now) in
+    let d = c.in_ok-list.ensures.did host (g.D.Draw.draws c.args.self.now.draw.now) in
     rw (p.1, p.2) (chain d (c.in_err-word.ensures.did host _) (draw_gathers t c.args.base.now (Grows-trans before _ told since d.recorded.store.list) c.in_ok-list.list (refusal c.in_err-word.field-0.0)))
 
 pub returns-in_err-ring-clause-did : goal.returns-in_err-ring-clause-did
@@ -85,7 +85,7 @@ returns-in_err-ring-clause-did g c = λ host before since.
     let w = c.in_ok-word.word in
     let eight : length w ≡ 8 = (c.in_ok-word.ensures.did host (g.R.Repo.store c.read_on.new.repo)).is.0 in
     let p = err_from_is_err_and c.from_residual-in_err-ring.result c.from_residual-in_err-ring.ensures.1 in
-    let d = c.in_ok-list.ensures.did host (g.D.Draw.draws c.args.draw.now) in
+    let d = c.in_ok-list.ensures.did host (g.D.Draw.draws c.args.self.now.draw.now) in
     let later = Grows-trans before _ told since d.recorded.store.list in
     let begun = chain d (c.in_ok-word.ensures.did host _) (began_word told c.args.base.now es w) in
     rw (p.1, p.2) (as_kind begun (λ d q. ring_lost t c.args.base.now later es w d (makes_key t es) refl eight q))
@@ -100,7 +100,7 @@ returns-then-not-makes_key-clause-did g c = λ host before since.
     let ring : c.in_ok-ring.ring ≡ ring_of es c.args.now (jitter_of w) = c.in_ok-ring.ensures ∙ ap (ring_of es c.args.now) c.jitter_of-jitter.ensures.value in
     let list = ap (λ (r : RingOf). r.list) ring in
     let makes : makes_key t es ≡ false = ap (makes_key t) (sym list) ∙ sym (c.makes_key.ensures c.args.now c.args.opening before told (ap (λ (r : RingOf). r.made_at) ring)) ∙ c.if-not-makes_key.true in
-    let d = c.in_ok-list.ensures.did host (g.D.Draw.draws c.args.draw.now) in
+    let d = c.in_ok-list.ensures.did host (g.D.Draw.draws c.args.self.now.draw.now) in
     let later = Grows-trans before _ told since d.recorded.store.list in
     let begun = chain d (c.in_ok-word.ensures.did host _) (began_word told c.args.base.now es w) in
     rw ring (as_kind begun (λ d q. plain_gathers t c.args.base.now later es w d makes eight q))
@@ -118,7 +118,7 @@ returns-in_err-key-clause-did g c = λ host before since.
     let activated = c.activation_of-activation.ensures ∙ ap (λ (x : List Element). activation_of c.args.now (preferred_key x c.args.now)) list in
     let good = made-good t es c.activation_of-activation.result makes activated c.requires.moment in
     let make = λ (b : List ℕ). key_of_draw b c.args.now c.activation_of-activation.result (c.args.now + c.args.options.now.lifetime) (code_of c.args.options.now.new_alg) in
-    let d = c.in_ok-list.ensures.did host (g.D.Draw.draws c.args.draw.now) in
+    let d = c.in_ok-list.ensures.did host (g.D.Draw.draws c.args.self.now.draw.now) in
     let later = Grows-trans before _ told since d.recorded.store.list in
     let begun = chain d (c.in_ok-word.ensures.did host _) (began_word told c.args.base.now es w) in
     let p = err_from_is_err_and c.from_residual-in_err-key.result c.from_residual-in_err-key.ensures.1 in

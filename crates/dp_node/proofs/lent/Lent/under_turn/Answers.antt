@@ -10,17 +10,17 @@ use Rattle.dp_node.specs.Calls.{call, terms}
 use Rattle.dp_node.proofs.Books.{after, exactly}
 use Rattle.dp_node.proofs.Courses.{turn_flies, turn_rests, enough-target, IsFrontOf-in_line}
 use Rattle.dp_node.proofs.HostSteps.{did_sight, turn_refused}
-use Rattle.dp_node.proofs.call.under_turn.Goals as goal
+use Rattle.dp_node.proofs.lent.Lent.under_turn.Goals as goal
 
 pub returns-in_err-sight-clause-did : goal.returns-in_err-sight-clause-did
 returns-in_err-sight-clause-did g c = λ missing before since.
     let p = err_from_is_err_and c.from_residual.result c.from_residual.ensures.1 in
-    rw (p.1, p.2) (turn_refused (call c.args.at missing (g.H.HostView.state c.args.host.now) before (g.R.Repo.store c.args.repo.now).list) _ _ _ _ _ _ refl refl c.in_err-sight.field-0.0 c.in_err-sight.ensures.err)
+    rw (p.1, p.2) (turn_refused (call c.args.at missing (g.H.HostView.state c.args.self.now.host.now) before (g.R.Repo.store c.args.self.now.repo.now).list) _ _ _ _ _ _ refl refl c.in_err-sight.field-0.0 c.in_err-sight.ensures.err)
 
 pub returns-then-is_enough-clause-did : goal.returns-then-is_enough-clause-did
 returns-then-is_enough-clause-did g c = λ missing before since.
     let s = sight_of c.in_ok-sight.sight in
-    let x = call c.args.at missing (g.H.HostView.state c.args.host.now) before (g.R.Repo.store c.args.repo.now).list in
+    let x = call c.args.at missing (g.H.HostView.state c.args.self.now.host.now) before (g.R.Repo.store c.args.self.now.repo.now).list in
     let e = subst (λ n. is_enough_for c.args.at.now n s ≡ true) c.requires.target (sym c.is_enough.ensures ∙ c.if-is_enough.true) in
     exactly _ (did_sight _ _ _ _ _ _ s c.in_ok-sight.ensures.steps c.in_ok-sight.ensures.shows c.in_ok-sight.ensures.host) (turn_rests x s c.in_ok-sight.ensures.shows.2 c.in_ok-sight.ensures.in_line e)
 
@@ -33,8 +33,8 @@ returns-then-is_enough-clause-extends g c =
 pub returns-clause-did : goal.returns-clause-did
 returns-clause-did g c = λ missing before since.
     let s = sight_of c.in_ok-sight.sight in
-    let h = g.H.HostView.state c.args.host.now in
-    let told = (g.R.Repo.store c.flight.new.repo).list in
+    let h = g.H.HostView.state c.args.self.now.host.now in
+    let told = (g.R.Repo.store c.flight.new.self.repo.now).list in
     let e = subst (λ n. is_enough_for c.args.at.now n s ≡ false) c.requires.target (sym c.is_enough.ensures ∙ c.if-is_enough.false) in
     let x = call c.args.at missing h before told in
     let r = seen c.flight.result in

@@ -1,5 +1,5 @@
 -- Each kind of step on the table of a turn keeps its rule.
-use Rattle.std.proofs.Common.{◌≡◌, ◌≢◌, ◌⊎◌, ℕ, zero, suc, ◌+◌, ◌<◌, ◌≤◌, true, false, eqb, max, Option, Some, None, List, [], ◌∷◌, ◌++◌, length, slice_get, get_or, set, sym, refl, ap, ◌∙◌, subst, inl, inr, ⊎_elim, arith, rules}
+use Rattle.std.proofs.Common.{◌≡◌, ◌≢◌, ◌⊎◌, ℕ, zero, suc, ◌+◌, ◌<◌, ◌≤◌, true, false, eqb, max, Option, Some, None, option_map, List, [], ◌∷◌, ◌++◌, length, slice_get, get_or, set, sym, refl, ap, ◌∙◌, subst, inl, inr, ⊎_elim, arith, rules}
 use Rattle.std.proofs.lemmas.Bool.{false_from_ne_true, true≢false, false≢true}
 use mathlib.Core.Option.{some, none, some-injective, some-ne-none}
 use mathlib.Core.Option as maybe
@@ -12,7 +12,7 @@ use Rattle.flight_turn.specs.Rule.{Lies, Fits, Rules, Kept, seated, maker, maker
 use Rattle.flight_turn.specs.declared.turn.Turn.{Turn}
 use Rattle.flight_turn.specs.declared.seat.TurnSeat.{TurnSeat}
 use Rattle.flight_turn.specs.Seats.{IsSeatOf, IsFresh, IsSameSeat, first_flight}
-use Rattle.flight_turn.specs.Steps.{tried, gave, raised, asked, counts_on, made, spent}
+use Rattle.flight_turn.specs.Steps.{IsAlike, tried, gave, raised, asked, counts_on, made, spent}
 
 -- what stands at a place of a list with one more at its end
 at_end : {A : Type 0} (l : List A) (a b : A) (j : ℕ) → get_elem? (l ++ a ∷ []) j ≡ some b → (get_elem? l j ≡ some b) ⊎ ((j ≡ length l) × (a ≡ b))
@@ -335,12 +335,17 @@ module _ {F M : Type 0} (mark : F → M) where
         },
       )
 
+  -- a flight that is alike has the turn's mark
+  pub alike_mark : (like : Option F) (f : F) (m : M) → option_map mark like ≡ Some m → IsAlike mark like f → mark f ≡ m
+  alike_mark None f m e h = absurd (none_some m e)
+  alike_mark (Some g) f m e h = h g refl ∙ some_one (mark g) m e
+
   -- a seat that was made is one of the turn
   pub of_fresh : (t : Turn F) (number : ℕ) (s : TurnSeat F) → IsFresh t number s → IsSeatOf mark t s
   of_fresh t number s fresh = record {
     table_is = fresh.0;
     seats_are = ap (λ (v : Stand F). v.seats) fresh.1;
-    like_is = (first_flight t, ap (λ (v : Stand F). v.like) fresh.1, refl);
+    like_is = ap (λ (v : Stand F). option_map mark v.like) fresh.1;
   }
 
   -- a seat of the turn stays one
@@ -348,5 +353,5 @@ module _ {F M : Type 0} (mark : F → M) where
   stays t s s' is same = record {
     table_is = same.0 ∙ is.table_is;
     seats_are = same.2 ∙ is.seats_are;
-    like_is = (is.like_is.0, same.3 ∙ is.like_is.1, is.like_is.2);
+    like_is = ap (option_map mark) same.3 ∙ is.like_is;
   }

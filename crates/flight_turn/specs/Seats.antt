@@ -1,5 +1,5 @@
 -- What clauses read of a turn and of a seat.
-use Rattle.std.specs.Prelude.{◌≡◌, ℕ, ◌+◌, ◌<◌, Bool, true, false, Option, Some, List, [], length, slice_get, slice_index_or}
+use Rattle.std.specs.Prelude.{◌≡◌, ℕ, ◌+◌, ◌<◌, Bool, true, false, Option, Some, option_map, List, [], length, slice_get, slice_index_or}
 use Rattle.atomic_table.specs.declared.shared.Seat.{Seat}
 use Rattle.flight_turn.specs.declared.turn.Turn.{Turn}
 use Rattle.flight_turn.specs.declared.seat.TurnSeat.{TurnSeat}
@@ -78,4 +78,4 @@ module _ {F : Type 0} where
     pub record IsSeatOf (t : Turn F) (s : TurnSeat F) : Type 0 where
       pub table_is : s.place.table_id ≡ t.table.shared.table_id
       pub seats_are : (stand s).seats ≡ seats_of t
-      pub like_is : (f : F) × ((stand s).like ≡ Some f) × (mark f ≡ turn_mark t)
+      pub like_is : option_map mark (stand s).like ≡ Some (turn_mark t)

@@ -85,6 +85,7 @@ impl<F: Kin + Drop> Turn<F> {
     }
 
     /// Tries to take the turn, in one step that waits for nobody.
+    #[tactic(auto, using(crate::proofs::Keeps::alike_mark))]
     pub fn try_take(&self, seat: &mut TurnSeat<F>) -> Result<F, Busy>
         requires seat { IsSeatOf F.mark self.now seat.old }
         ensures seat { IsSeatOf F.mark self.now seat.new }

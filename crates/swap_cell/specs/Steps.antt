@@ -1,6 +1,6 @@
 -- What each kind of step on the table of a cell tells its seat. A step is made by a seat m, which is
 -- m' afterwards; n is the number that it found.
-use Rattle.std.specs.Prelude.{◌≡◌, ◌≢◌, ℕ, ◌+◌, ◌*◌, ◌≤◌, max, false, [], ◌∷◌, ◌++◌, Some, None}
+use Rattle.std.specs.Prelude.{◌≡◌, ◌≢◌, ◌⊎◌, ℕ, ◌+◌, ◌*◌, ◌≤◌, max, false, [], ◌∷◌, ◌++◌, Some, None}
 use mathlib.Core.Option.{some}
 use Rattle.atomic_table.specs.Table.{Me, Step, rest}
 use Rattle.atomic_table.specs.Seated.{TableId}
@@ -36,6 +36,10 @@ module _ {T : Type 0} where
   abbrev pub looked : (T → T → Type 0) → Step (Item T) → Sat T → ℕ → Sat T → Type 0
   looked extends st m n m' = (x : Item T) → m.0.mine ≡ Some x
       → Each (λ k. extends x.value k.value) m.0.known × (m' ≡ (record m.0 { known = x ∷ m.0.known; most = x.number }, m.1))
+
+  -- all that the seat knows is in line
+  abbrev pub lined : (T → T → Type 0) → Step (Item T) → Sat T → ℕ → Sat T → Type 0
+  lined extends st m n m' = (m' ≡ m) × Each (λ a. Each (λ b. extends a.value b.value ⊎ extends b.value a.value) m.0.known) m.0.known
 
   -- a seat that knows as much, and has the same
   abbrev pub follower : Sight T → Sight T

@@ -49,6 +49,15 @@ impl<T: Grows> Play<Item<T>, Sight<T>> for Look {
     ghost then = { looked T.extends };
 }
 
+/// What was learnt is of one chain with what was known.
+pub struct Line;
+
+impl<T: Grows> Play<Item<T>, Sight<T>> for Line {
+    ghost use Rattle.swap_cell.specs.Steps.{lined};
+
+    ghost then = { lined T.extends };
+}
+
 /// A seat tells another all that it knows.
 pub struct Tell;
 

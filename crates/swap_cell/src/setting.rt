@@ -1,5 +1,5 @@
 //! What the setter does.
-ghost use Rattle.std.specs.Prelude.{◌≡◌, ◌<◌, ◌≤◌, [], All, Some, length, IfOk, IfErr};
+ghost use Rattle.std.specs.Prelude.{◌≡◌, ◌<◌, ◌≤◌, [], ◌∷◌, All, Some, drop, length, IfOk, IfErr};
 ghost use Rattle.swap_cell.specs.Steps.{IsAt, IsFree, HasTaken, IsHanding};
 ghost use Rattle.swap_cell.specs.Cells.{HasSet, StaysSet, setter_cell, told_cell, last_set, set_before, told_values};
 
@@ -120,6 +120,7 @@ impl<T: Grows + Drop> Setter<T> {
         ensures cell { told_cell result ≡ setter_cell self.old }
         ensures here { setter_cell self.new ≡ setter_cell self.old }
         ensures told { told_values result ≡ set_before self.old }
+        ensures last { set_before self.old ≡ last_set self.old ∷ drop 1 (set_before self.old) }
         ensures same { StaysSet self.old self.new }
     {
         let number = self.last.number;

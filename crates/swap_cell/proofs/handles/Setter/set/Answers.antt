@@ -1,4 +1,4 @@
-use Rattle.std.proofs.Common.{rules, ◌≡◌, ◌+◌, ◌*◌, ◌<◌, ◌≤◌, ◌∷◌, ◌++◌, [], length, map, ap, ◌∙◌, sym, subst, refl, length-append, arith}
+use Rattle.std.proofs.Common.{rules, ◌≡◌, ◌+◌, ◌*◌, ◌<◌, ◌≤◌, ◌∷◌, ◌++◌, [], length, map, drop, ap, ◌∙◌, sym, subst, refl, length-append, arith}
 use Rattle.swap_cell.specs.Cells.{value_of}
 use Rattle.swap_cell.proofs.Keeps.{appends, some_word}
 use Rattle.swap_cell.proofs.handles.Setter.set.Goals as goal
@@ -28,6 +28,7 @@ invariant_of-self-2 g c = let me = c.args.self.now in let a = c.compare_exchange
       filled = subst (λ z. 0 < z.slots) (sym t) me.filled;
       sets = h.6 ∙ (ap (λ m. m.0.sets) a ∙ me.sets);
       has = h.3 ∙ ap (λ m. m.0.mine) a;
+      knows = let k = h.5 ∙ ap (λ m. m.0.known) a in k ∙ ap (λ z. record { value = c.args.value; number = c.in-Some.number } ∷ z) (sym (ap (drop 1) k));
       most = h.4 ∙ ap (λ m. m.0.most) a;
       counts = omega arith;
       empty = c.hand_all.ensures.room;

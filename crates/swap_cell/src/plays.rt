@@ -34,10 +34,10 @@ impl<T> Play<Item<T>, Sight<T>> for Swap {
 /// A value is set.
 pub struct Append;
 
-impl<T> Play<Item<T>, Sight<T>> for Append {
+impl<T: Grows> Play<Item<T>, Sight<T>> for Append {
     ghost use Rattle.swap_cell.specs.Steps.{appended};
 
-    ghost then = { appended };
+    ghost then = { appended T.extends };
 }
 
 /// A value is looked at.

@@ -1,5 +1,5 @@
-use Rattle.std.proofs.Common.{◌⊎◌, ap, ◌∙◌, ◌∷◌, sym, subst, map, arith}
-use Rattle.swap_cell.specs.Rule.{Each, InLine}
+use Rattle.std.proofs.Common.{ap, ◌∙◌, sym, subst, map}
+use Rattle.swap_cell.specs.Rule.{InLine}
 use Rattle.swap_cell.specs.Cells.{value_of}
 use Rattle.swap_cell.proofs.Keeps.{lines, line_of_items, word_within}
 use Rattle.swap_cell.proofs.handles.Viewer.learn.Goals as goal

@@ -1,18 +1,20 @@
 -- Each kind of step on the table of a turn keeps its rule.
-use Rattle.std.proofs.Common.{◌≡◌, ◌≢◌, ◌⊎◌, ℕ, zero, suc, ◌+◌, ◌<◌, ◌≤◌, true, false, eqb, max, Option, Some, None, List, [], ◌∷◌, ◌++◌, length, slice_get, get_or, set, sym, refl, ap, ◌∙◌, subst, inl, inr, ⊎_elim, arith, rules}
-use Rattle.std.proofs.lemmas.Bool.{false_from_ne_true, true≢false, false≢true}
+use Rattle.std.proofs.Common.{◌≡◌, ◌≢◌, ◌⊎◌, ℕ, zero, suc, ◌+◌, ◌<◌, ◌≤◌, true, false, eqb, max, Option, Some, None, option_map, List, [], ◌∷◌, ◌++◌, length, slice_get, get_or, set, sym, refl, ap, ◌∙◌, subst, inl, inr, ⊎_elim, le_refl, arith, rules}
+use Rattle.std.proofs.lemmas.Bool.{false_from_ne_true, true≢false, false≢true, cases_lt}
 use mathlib.Core.Option.{some, none, some-injective, some-ne-none}
 use mathlib.Core.Option as maybe
+use mathlib.Core.Logic.{dite}
+use native.Mathlib.Decide.{ℕ_discrete}
 use lib.ListN.{get_elem?}
 use prog.Atomic.{either}
 use Rattle.atomic_table.specs.Table.{Me, Act, takes, gives, keeps, step, opening, rest, Valid, homes_after, carried_after, Allows, Splits, Joins}
-use Rattle.atomic_table.proofs.Lists.{at_set, set_again, exchanged}
+use Rattle.atomic_table.proofs.Lists.{at_set, set_else, set_again, at_longer, exchanged}
 use Rattle.flight_turn.specs.declared.rule.Stand.{Stand}
-use Rattle.flight_turn.specs.Rule.{Lies, Fits, Rules, Kept, seated, maker, maker_at}
+use Rattle.flight_turn.specs.Rule.{Lies, Fits, IsRaised, Rules, Kept, seated, maker, maker_at}
 use Rattle.flight_turn.specs.declared.turn.Turn.{Turn}
 use Rattle.flight_turn.specs.declared.seat.TurnSeat.{TurnSeat}
-use Rattle.flight_turn.specs.Seats.{IsSeatOf, IsFresh, IsSameSeat, first_flight}
-use Rattle.flight_turn.specs.Steps.{tried, gave, raised, asked, counts_on, made, spent}
+use Rattle.flight_turn.specs.Seats.{IsSeatOf, IsFresh, IsSameSeat}
+use Rattle.flight_turn.specs.Steps.{IsAlike, tried, gave, found, raised, asked, counts_on, made, spent}
 
 -- what stands at a place of a list with one more at its end
 at_end : {A : Type 0} (l : List A) (a b : A) (j : ℕ) → get_elem? (l ++ a ∷ []) j ≡ some b → (get_elem? l j ≡ some b) ⊎ ((j ≡ length l) × (a ≡ b))
@@ -43,6 +45,11 @@ the_only : {A : Type 0} (a : A) (i : ℕ) (b : A) → get_elem? (a ∷ []) i ≡
 the_only a zero b e = (refl, some-injective a b e)
 the_only a (suc i) b e = absurd (some-ne-none b (sym e))
 
+set_there : {A : Type 0} (l : List A) (i : ℕ) (a b : A) → get_elem? l i ≡ some a → get_elem? (set l i b) i ≡ some b
+set_there [] i a b e = absurd (some-ne-none a (sym e))
+set_there (x ∷ xs) zero a b e = refl
+set_there (x ∷ xs) (suc i) a b e = set_there xs i a b e
+
 module _ {F M : Type 0} (mark : F → M) where
   abbrev Home : Type 0
   Home = maybe.Option (Option F)
@@ -65,14 +72,27 @@ module _ {F M : Type 0} (mark : F → M) where
       subst (λ (ws : List ℕ). Goes like seats id me i f then ws s.homes s.views) (sym kept.3)
       (subst (λ (hs : List Home). Goes like seats id me i f then (kept.0 ∷ kept.1 ∷ []) hs s.views) (sym kept.4) (goes kept.0 kept.1 kept.2 s.views kept.5 at))
 
+  -- the seat id goes from v to w, and raised the want to no less: to what it is now, where it changed
+  reaches : (views : List (Stand F)) (id : ℕ) (v w : Stand F) (want want' : ℕ) → seated views id v → IsRaised mark want (seated views)
+      → v.raised_to ≤ w.raised_to → w.raised_to ≤ want' → ((want' ≡ want) ⊎ (w.raised_to ≡ want')) → IsRaised mark want' (seated (set views id w))
+  reaches views id v w want want' at reached up low top = ⊎_elim
+      (λ (same : want' ≡ want). ⊎_elim
+      (λ (z : want ≡ 0). inl (same ∙ z))
+      (λ (t : (i : ℕ) × (u : Stand F) × seated views i u × (u.raised_to ≡ want)). dite (ℕ_discrete t.0 id)
+      (λ (here : t.0 ≡ id). let it : v ≡ t.1 = some-injective v t.1 (sym at ∙ subst (λ (k : ℕ). seated views k t.1) here t.2) in
+      let n : v.raised_to ≡ want = ap (λ (x : Stand F). x.raised_to) it ∙ t.3 in inr (id, w, set_there views id v w at, omega arith))
+      (λ ne. inr (t.0, t.1, set_else views id t.0 w ne ∙ t.2, t.3 ∙ sym same))) reached)
+      (λ (e : w.raised_to ≡ want'). inr (id, w, set_there views id v w at, e)) top
+
   -- the seat id goes from v to w, and keeps its number
   moved : (m : M) (seats turn want : ℕ) (home : Home) (views : List (Stand F)) (id : ℕ) (v w : Stand F) (turn' want' : ℕ) (home' : Home)
       → Rules mark m seats turn want home (seated views) → seated views id v → w.number ≡ v.number → w.next ≡ v.next
       → Lies mark m turn' home' → turn' ≤ seats → Fits mark m seats turn' want' w
       → ((i : ℕ) (u : Stand F) → i ≢ id → seated views i u → Fits mark m seats turn' want' u)
       → ((i : ℕ) (u : Stand F) → seated views i u → 0 < u.next → turn' < u.next)
+      → v.raised_to ≤ w.raised_to → ((want' ≡ want) ⊎ (w.raised_to ≡ want'))
       → Rules mark m seats turn' want' home' (seated (set views id w))
-  moved m seats turn want home views id v w turn' want' home' r at num nxt lies known fits others unnamed =
+  moved m seats turn want home views id v w turn' want' home' r at num nxt lies known fits others unnamed up top =
       let back : (j : ℕ) (u : Stand F) → seated (set views id w) j u → (x : Stand F) × seated views j x × (x.number ≡ u.number) × (x.next ≡ u.next) =
       λ j u e. ⊎_elim
       (λ (t : (j ≡ id) × (w ≡ u)). (v, subst (λ (z : ℕ). seated views z v) (sym t.0) at, sym num ∙ ap (λ (x : Stand F). x.number) t.1, sym nxt ∙ ap (λ (x : Stand F). x.next) t.1))
@@ -80,6 +100,7 @@ module _ {F M : Type 0} (mark : F → M) where
       record {
         lies = lies;
         known = known;
+        reached = let low = fits.under in let high = fits.below in reaches views id v w want want' at r.reached up (omega arith) top;
         each = λ i u e. ⊎_elim (λ (t : (i ≡ id) × (w ≡ u)). subst (Fits mark m seats turn' want') t.1 fits) (λ (t : (i ≢ id) × seated views i u). others i u t.0 t.1) (at_set views id i w u e);
         own = λ i j a b ea eb pos same. let x = back i a ea in let y = back j b eb in
             r.own i j x.0 y.0 x.1 y.1 (subst (λ (z : ℕ). 0 < z) (sym x.2) pos) (x.2 ∙ (same ∙ sym y.2));
@@ -113,16 +134,18 @@ module _ {F M : Type 0} (mark : F → M) where
           moved m seats turn want home views id v w k want none r at refl refl
               (λ z. absurd (omega arith), λ _. refl)
               (subst (λ (z : ℕ). z ≤ seats) (sym is) h.numbered)
-              (record { numbered = h.numbered; named = λ _. (positive, is); holder = λ _ _. refl; counted = h.counted; below = h.below; alike = h.alike })
+              (record { numbered = h.numbered; named = λ _. (positive, is); holder = λ _ _. refl; counted = h.counted; below = h.below; under = h.under; unraised = h.unraised; alike = h.alike })
               (λ i u ne e. let g = r.each i u e in record {
                 numbered = g.numbered;
                 named = λ on. let c = g.named on in absurd (omega arith);
                 holder = λ p same. absurd (ne (r.own i id u v e at p (sym same ∙ is)));
                 counted = g.counted;
                 below = g.below;
+                under = g.under;
+                unraised = g.unraised;
                 alike = g.alike;
               })
-              (λ i u e p. subst (λ (z : ℕ). z < u.next) (sym is) (r.unmade i id u v e at p)),
+              (λ i u e p. subst (λ (z : ℕ). z < u.next) (sym is) (r.unmade i id u v e at p)) (le_refl v.raised_to) (inl refl),
         ),
         (λ _. (lie.0, refl, false_from_ne_true v.holds (λ on. let c = h.named on in omega arith), λ g e. lie.2 ∙ sym (h.alike g e)), λ ne. absurd (ne free)),
       ))
@@ -137,10 +160,13 @@ module _ {F M : Type 0} (mark : F → M) where
           refl,
           refl,
           moved m seats turn want home views id v w turn want home r at refl refl r.lies r.known
-              (record { numbered = h.numbered; named = h.named; holder = h.holder; counted = h.counted; below = h.below; alike = h.alike })
-              (λ i u ne e. r.each i u e) r.unnamed,
+              (record { numbered = h.numbered; named = h.named; holder = h.holder; counted = h.counted; below = h.below; under = h.under; unraised = h.unraised; alike = h.alike })
+              (λ i u ne e. r.each i u e) r.unnamed (le_refl v.raised_to) (inl refl),
         ),
-        (λ free. absurd (busy free), λ _. (refl, (λ p. subst (λ (z : ℕ). turn ≤ z) (sym (h.counted p)) r.known), λ out same. absurd (true≢false (sym (h.holder positive same) ∙ out)))),
+        (
+          λ free. absurd (busy free),
+          λ _. (refl, (λ p. subst (λ (z : ℕ). turn ≤ z) (sym (h.counted p)) r.known), (λ out same. absurd (true≢false (sym (h.holder positive same) ∙ out))), λ on. (h.named on).1),
+        ),
       )))
 
   -- the turn back to 0
@@ -148,7 +174,7 @@ module _ {F M : Type 0} (mark : F → M) where
       → Allows (Kept mark like seats) slots id me 0 (λ _. 0) (λ _. gave (step slots 0 0 0 none) me 0)
   gives_back like seats slots id v f me is on alike = subst (λ (z : Sat). Allows (Kept mark like seats) slots id z 0 (λ _. 0) (λ _. gave (step slots 0 0 0 none) z 0)) (sym is)
       (allows like seats slots id (v, (0, Some f) ∷ []) 0 (λ _. 0) (λ _. gave (step slots 0 0 0 none) (v, (0, Some f) ∷ []) 0) (λ turn want home views r at.
-      let h = r.each id v at in let m : M = mark like in let w : Stand F = record v { holds = false; steps = v.steps + 1 } in let mine = h.named on in (
+      let h = r.each id v at in let m : M = mark like in let w : Stand F = record v { holds = false; steps = v.steps + 1; left = Some f } in let mine = h.named on in (
         w,
         gives,
         tt,
@@ -161,26 +187,41 @@ module _ {F M : Type 0} (mark : F → M) where
           moved m seats turn want home views id v w 0 want (some (Some f)) r at refl refl
               ((λ _. (f, refl, alike)), (λ n. absurd (n refl)))
               (omega arith)
-              (record { numbered = h.numbered; named = λ z. absurd (false≢true z); holder = λ p z. absurd (omega arith); counted = h.counted; below = h.below; alike = h.alike })
+              (record { numbered = h.numbered; named = λ z. absurd (false≢true z); holder = λ p z. absurd (omega arith); counted = h.counted; below = h.below; under = h.under; unraised = h.unraised; alike = h.alike })
               (λ i u ne e. let g = r.each i u e in record {
                 numbered = g.numbered;
                 named = λ on'. let c = g.named on' in absurd (ne (r.own i id u v e at c.0 (sym c.1 ∙ mine.1)));
                 holder = λ p z. absurd (omega arith);
                 counted = g.counted;
                 below = g.below;
+                under = g.under;
+                unraised = g.unraised;
                 alike = g.alike;
               })
-              (λ i u e p. p),
+              (λ i u e p. p) (le_refl v.raised_to) (inl refl),
         ),
         refl,
       )))
 
-  -- a step on the want, which is not lowered
-  wants : (like : F) (seats slots id : ℕ) (me : Sat) (f : ℕ → ℕ) (then : ℕ → Sat → Type 0) → ((n : ℕ) → n ≤ f n)
-      → ((n : ℕ) → me.0.want ≤ n → then n (record me.0 { want = f n; steps = me.0.steps + 1 }, me.1))
+  -- the want that a seat finds is just what it raised it to, where it is the one seat
+  only : (m : M) (seats turn want id : ℕ) (home : Home) (views : List (Stand F)) (v : Stand F) → Rules mark m seats turn want home (seated views) → seated views id v → 0 < v.number
+      → v.seats ≡ 1 → want ≡ v.raised_to
+  only m seats turn want id home views v r at pos one = let h = r.each id v at in let low = h.below in let under = h.under in ⊎_elim
+      (λ (z : want ≡ 0). omega arith)
+      (λ (t : (i : ℕ) × (u : Stand F) × seated views i u × (u.raised_to ≡ want)). let e = t.3 in let g = r.each t.0 t.1 t.2 in dite (ℕ_discrete t.1.number 0)
+      (λ (none_yet : t.1.number ≡ 0). let z = g.unraised none_yet in omega arith)
+      (λ ne. let most = g.numbered in let most' = h.numbered in let count : v.seats ≡ seats = h.counted pos in
+      let here : t.0 ≡ id = r.own t.0 id t.1 v t.2 at (omega arith) (omega arith) in
+      let it : v ≡ t.1 = some-injective v t.1 (sym at ∙ subst (λ (k : ℕ). seated views k t.1) here t.2) in sym e ∙ sym (ap (λ (x : Stand F). x.raised_to) it))) r.reached
+
+  -- a step on the want, which is not lowered: the seat raised it to top
+  wants : (like : F) (seats slots id : ℕ) (me : Sat) (f : ℕ → ℕ) (top : ℕ) (then : ℕ → Sat → Type 0) → 0 < me.0.number
+      → ((n : ℕ) → n ≤ f n) → me.0.raised_to ≤ top → ((n : ℕ) → me.0.raised_to ≤ n → top ≤ f n) → ((n : ℕ) → me.0.raised_to ≤ n → (f n ≡ n) ⊎ (top ≡ f n))
+      → ((n : ℕ) → found me.0 n → then n (record me.0 { want = f n; raised_to = top; steps = me.0.steps + 1 }, me.1))
       → Allows (Kept mark like seats) slots id me 1 f then
-  wants like seats slots id me f then up told = allows like seats slots id me 1 f then (λ turn want home views r at.
-      let v : Stand F = me.0 in let h = r.each id v at in let w : Stand F = record v { want = f want; steps = v.steps + 1 } in (
+  wants like seats slots id me f top then pos up more low reach told = allows like seats slots id me 1 f then (λ turn want home views r at.
+      let v : Stand F = me.0 in let h = r.each id v at in let w : Stand F = record v { want = f want; raised_to = top; steps = v.steps + 1 } in
+      let below = h.below in let under = h.under in let high = up want in let own : v.raised_to ≤ want = omega arith in (
         w,
         keeps,
         tt,
@@ -191,19 +232,22 @@ module _ {F M : Type 0} (mark : F → M) where
           refl,
           refl,
           moved (mark like) seats turn want home views id v w turn (f want) home r at refl refl r.lies r.known
-              (record { numbered = h.numbered; named = h.named; holder = h.holder; counted = h.counted; below = omega arith; alike = h.alike })
-              (λ i u ne e. let g = r.each i u e in let more = up want in
-              record { numbered = g.numbered; named = g.named; holder = g.holder; counted = g.counted; below = let low = g.below in omega arith; alike = g.alike })
-              r.unnamed,
+              (record { numbered = h.numbered; named = h.named; holder = h.holder; counted = h.counted; below = omega arith; under = low want own; unraised = λ z. absurd (omega arith); alike = h.alike })
+              (λ i u ne e. let g = r.each i u e in
+              record { numbered = g.numbered; named = g.named; holder = g.holder; counted = g.counted; below = let b = g.below in omega arith; under = g.under; unraised = g.unraised; alike = g.alike })
+              r.unnamed more (reach want own),
         ),
-        told want h.below,
+        told want (below, own, only (mark like) seats turn want id home views v r at pos),
       ))
 
-  pub raises : (like : F) (seats slots id : ℕ) (me : Sat) (k : ℕ) → Allows (Kept mark like seats) slots id me 1 (λ n. max n k) (raised (step slots 1 k 0 none) me)
-  raises like seats slots id me k = wants like seats slots id me (λ n. max n k) (raised (step slots 1 k 0 none) me) (λ n. omega arith) (λ n low. (refl, low))
+  pub raises : (like : F) (seats slots id : ℕ) (me : Sat) (k : ℕ) → 0 < me.0.number → Allows (Kept mark like seats) slots id me 1 (λ n. max n k) (raised (step slots 1 k 0 none) me)
+  raises like seats slots id me k pos = wants like seats slots id me (λ n. max n k) (max me.0.raised_to k) (raised (step slots 1 k 0 none) me) pos
+      (λ n. omega arith) (omega arith) (λ n le. omega arith)
+      (λ n le. ⊎_elim (λ (lt : n < k). inr (omega arith)) (λ (ge : k ≤ n). inl (omega arith)) (cases_lt n k)) (λ n t. (refl, t))
 
-  pub asks : (like : F) (seats slots id : ℕ) (me : Sat) → Allows (Kept mark like seats) slots id me 1 (λ n. n) (asked (step slots 1 0 0 none) me)
-  asks like seats slots id me = wants like seats slots id me (λ n. n) (asked (step slots 1 0 0 none) me) (λ n. omega arith) (λ n low. (refl, low))
+  pub asks : (like : F) (seats slots id : ℕ) (me : Sat) → 0 < me.0.number → Allows (Kept mark like seats) slots id me 1 (λ n. n) (asked (step slots 1 0 0 none) me)
+  asks like seats slots id me pos = wants like seats slots id me (λ n. n) me.0.raised_to (asked (step slots 1 0 0 none) me) pos (λ n. le_refl n) (le_refl me.0.raised_to) (λ n le. le)
+      (λ n le. inl refl) (λ n t. (refl, t))
 
   -- one more seat
   pub makes : (like : F) (seats id : ℕ) (v : Stand F) → v.number ≡ 0 → 0 < v.next → v.next ≤ seats → v.seats ≡ seats
@@ -240,9 +284,12 @@ module _ {F M : Type 0} (mark : F → M) where
         record {
           lies = r.lies;
           known = r.known;
+          reached = let low = h.below in let under = h.under in ⊎_elim inl
+              (λ (t : (i : ℕ) × (u : Stand F) × seated cut i u × (u.raised_to ≡ want)). inr (t.0, t.1, at_longer cut (n ∷ []) t.0 t.1 t.2, t.3))
+              (reaches s.views id v l want want at r.reached (le_refl v.raised_to) (omega arith) (inl refl));
           each = λ j u e. ⊎_elim (⊎_elim
               (λ (t : (j ≡ id) × (l ≡ u)). subst (Fits mark (mark like) seats turn want) t.1
-              (record { numbered = h.numbered; named = h.named; holder = h.holder; counted = h.counted; below = h.below; alike = h.alike }))
+              (record { numbered = h.numbered; named = h.named; holder = h.holder; counted = h.counted; below = h.below; under = h.under; unraised = h.unraised; alike = h.alike }))
               (λ (t : (j ≢ id) × seated s.views j u). r.each j u t.1))
               (λ (t : (j ≡ length cut) × (n ≡ u)). subst (Fits mark (mark like) seats turn want) t.1 (record {
                 numbered = room;
@@ -250,6 +297,8 @@ module _ {F M : Type 0} (mark : F → M) where
                 holder = λ p z. absurd (omega arith);
                 counted = λ _. counted;
                 below = omega arith;
+                under = le_refl 0;
+                unraised = λ _. refl;
                 alike = h.alike;
               })) (where_is j u e);
           own = λ i j a b ea eb p same. ⊎_elim
@@ -270,9 +319,9 @@ module _ {F M : Type 0} (mark : F → M) where
   makes_at like seats id number v is pos room =
       subst (λ (z : Stand F). Splits (Kept mark like seats) id z (counts_on z) (made z)) (sym is) (makes like seats id (maker_at number seats like) refl pos room refl)
 
-  -- a seat takes in another, of which nothing is left
-  pub takes_in : (like : F) (seats id other : ℕ) (v w : Stand F) → Joins (Kept mark like seats) id v other w v spent
-  takes_in like seats id other v w s kept at apart there =
+  -- a seat takes in another, which raised nothing and of which nothing is left
+  pub takes_in : (like : F) (seats id other : ℕ) (v w : Stand F) → w.raised_to ≡ 0 → Joins (Kept mark like seats) id v other w v spent
+  takes_in like seats id other v w nothing s kept at apart there =
       let turn : ℕ = kept.0 in let want : ℕ = kept.1 in let r = kept.5 in
       let before : List (Stand F) = set s.views id v in
       let back : (j : ℕ) (u : Stand F) → seated (set before other spent) j u → (spent ≡ u) ⊎ seated s.views j u =
@@ -290,6 +339,12 @@ module _ {F M : Type 0} (mark : F → M) where
         record {
           lies = r.lies;
           known = r.known;
+          reached = ⊎_elim inl
+              (λ (t : (i : ℕ) × (u : Stand F) × seated s.views i u × (u.raised_to ≡ want)).
+              let now : seated before t.0 t.1 = subst (λ (q : List (Stand F)). seated q t.0 t.1) (sym (set_again s.views id v at)) t.2 in dite (ℕ_discrete t.0 other)
+              (λ (gone : t.0 ≡ other). let it : w ≡ t.1 = some-injective w t.1 (sym there ∙ subst (λ (k : ℕ). seated before k t.1) gone now) in
+              inl (sym t.3 ∙ (ap (λ (x : Stand F). x.raised_to) (sym it) ∙ nothing)))
+              (λ ne. inr (t.0, t.1, set_else before other t.0 spent ne ∙ now, t.3))) r.reached;
           each = λ j u e. ⊎_elim
               (λ (t : spent ≡ u). subst (Fits mark (mark like) seats turn want) t (record {
                 numbered = omega arith;
@@ -297,6 +352,8 @@ module _ {F M : Type 0} (mark : F → M) where
                 holder = λ p z. absurd (omega arith);
                 counted = λ p. absurd (omega arith);
                 below = omega arith;
+                under = le_refl 0;
+                unraised = λ _. refl;
                 alike = λ f z. absurd (none_some f z);
               }))
               (λ x. r.each j u x) (back j u e);
@@ -320,12 +377,15 @@ module _ {F M : Type 0} (mark : F → M) where
         record {
           lies = ((λ _. (f, refl, ap mark same)), (λ n. absurd (n refl)));
           known = omega arith;
+          reached = inl refl;
           each = λ i v e. subst (Fits mark (mark like) seats 0 0) (only i v e).1 (record {
             numbered = omega arith;
             named = λ z. absurd (false≢true z);
             holder = λ p z. absurd (omega arith);
             counted = λ p. absurd (omega arith);
             below = omega arith;
+            under = le_refl 0;
+            unraised = λ _. refl;
             alike = λ f z. ap mark (sym (some_one like f z));
           });
           own = λ i j v w ev ew p same. (only i v ev).0 ∙ sym (only j w ew).0;
@@ -335,12 +395,17 @@ module _ {F M : Type 0} (mark : F → M) where
         },
       )
 
+  -- a flight that is alike has the turn's mark
+  pub alike_mark : (like : Option F) (f : F) (m : M) → option_map mark like ≡ Some m → IsAlike mark like f → mark f ≡ m
+  alike_mark None f m e h = absurd (none_some m e)
+  alike_mark (Some g) f m e h = h g refl ∙ some_one (mark g) m e
+
   -- a seat that was made is one of the turn
   pub of_fresh : (t : Turn F) (number : ℕ) (s : TurnSeat F) → IsFresh t number s → IsSeatOf mark t s
   of_fresh t number s fresh = record {
     table_is = fresh.0;
     seats_are = ap (λ (v : Stand F). v.seats) fresh.1;
-    like_is = (first_flight t, ap (λ (v : Stand F). v.like) fresh.1, refl);
+    like_is = ap (λ (v : Stand F). option_map mark v.like) fresh.1;
   }
 
   -- a seat of the turn stays one
@@ -348,5 +413,5 @@ module _ {F M : Type 0} (mark : F → M) where
   stays t s s' is same = record {
     table_is = same.0 ∙ is.table_is;
     seats_are = same.2 ∙ is.seats_are;
-    like_is = (is.like_is.0, same.3 ∙ is.like_is.1, is.like_is.2);
+    like_is = ap (option_map mark) same.3 ∙ is.like_is;
   }

@@ -1,5 +1,5 @@
 -- What clauses read of a turn and of a seat.
-use Rattle.std.specs.Prelude.{◌≡◌, ℕ, ◌+◌, ◌<◌, Bool, true, false, Option, Some, List, [], length, slice_get, slice_index_or}
+use Rattle.std.specs.Prelude.{◌≡◌, ℕ, ◌+◌, ◌<◌, Bool, true, false, Option, Some, option_map, List, [], length, slice_get, slice_index_or}
 use Rattle.atomic_table.specs.declared.shared.Seat.{Seat}
 use Rattle.flight_turn.specs.declared.turn.Turn.{Turn}
 use Rattle.flight_turn.specs.declared.seat.TurnSeat.{TurnSeat}
@@ -30,6 +30,14 @@ module _ {F : Type 0} where
   abbrev pub recorded : TurnSeat F → ℕ
   recorded s = (stand s).want
 
+  -- the greatest number to which it raised the want
+  abbrev pub raised_to : TurnSeat F → ℕ
+  raised_to s = (stand s).raised_to
+
+  -- the flight that lay in the slot as it gave the turn back last
+  abbrev pub left : TurnSeat F → Option F
+  left s = (stand s).left
+
   -- the same seat of the same turn
   abbrev pub IsSameSeat : TurnSeat F → TurnSeat F → Type 0
   IsSameSeat s t = (t.place.table_id ≡ s.place.table_id) × (number t ≡ number s) × ((stand t).seats ≡ (stand s).seats) × ((stand t).like ≡ (stand s).like)
@@ -42,13 +50,17 @@ module _ {F : Type 0} where
   abbrev pub StaysAtTurn : TurnSeat F → TurnSeat F → Type 0
   StaysAtTurn s t = (read t ≡ read s) × (holds t ≡ holds s)
 
+  -- it knows no more of the want than before
+  abbrev pub StaysAtWant : TurnSeat F → TurnSeat F → Type 0
+  StaysAtWant s t = (recorded t ≡ recorded s) × (raised_to t ≡ raised_to s)
+
   -- it didn't hold the turn, and does now
   abbrev pub HasTaken : TurnSeat F → TurnSeat F → Type 0
   HasTaken s t = (holds s ≡ false) × (holds t ≡ true)
 
-  -- the seats have the numbers 1, 2, …, hold nothing and know no want
+  -- the seats have the numbers 1, 2, …, hold nothing, know no want and raised none
   abbrev pub AreNew : List (TurnSeat F) → Type 0
-  AreNew seats = (i : ℕ) (d : TurnSeat F) → i < length seats → let s = slice_index_or seats i d in (number s ≡ i + 1) × (holds s ≡ false) × (recorded s ≡ 0)
+  AreNew seats = (i : ℕ) (d : TurnSeat F) → i < length seats → let s = slice_index_or seats i d in (number s ≡ i + 1) × (holds s ≡ false) × (recorded s ≡ 0) × (raised_to s ≡ 0)
 
   -- how many seats a turn has
   abbrev pub seats_of : Turn F → ℕ
@@ -78,4 +90,4 @@ module _ {F : Type 0} where
     pub record IsSeatOf (t : Turn F) (s : TurnSeat F) : Type 0 where
       pub table_is : s.place.table_id ≡ t.table.shared.table_id
       pub seats_are : (stand s).seats ≡ seats_of t
-      pub like_is : (f : F) × ((stand s).like ≡ Some f) × (mark f ≡ turn_mark t)
+      pub like_is : option_map mark (stand s).like ≡ Some (turn_mark t)

@@ -1,8 +1,8 @@
 //! What makes a turn, and its four calls.
-ghost use Rattle.std.specs.Prelude.{◌≡◌, ◌≢◌, ◌+◌, ◌<◌, ◌≤◌, true, false, length, IfOk, IfErr, All};
-ghost use Rattle.flight_turn.specs.Seats.{IsSeatOf, IsStep, StaysAtTurn, HasTaken};
+ghost use Rattle.std.specs.Prelude.{◌≡◌, ◌≢◌, ◌+◌, ◌<◌, ◌≤◌, true, false, max, length, Some, IfOk, IfErr, All};
+ghost use Rattle.flight_turn.specs.Seats.{IsSeatOf, IsStep, StaysAtTurn, StaysAtWant, HasTaken};
 ghost use Rattle.flight_turn.specs.Seats.{IsMaker, IsFresh, AreFresh, AreNew};
-ghost use Rattle.flight_turn.specs.Seats.{number, holds, read, recorded, seats_of, turn_mark};
+ghost use Rattle.flight_turn.specs.Seats.{number, holds, left, read, recorded, raised_to, seats_of, turn_mark};
 
 use crate::plays::{Ask, GiveBack, Make, Raise, TakeIn, Try};
 use crate::rule::{About, Place};
@@ -85,16 +85,18 @@ impl<F: Kin + Drop> Turn<F> {
     }
 
     /// Tries to take the turn, in one step that waits for nobody.
+    #[tactic(auto, using(crate::proofs::Keeps::alike_mark))]
     pub fn try_take(&self, seat: &mut TurnSeat<F>) -> Result<F, Busy>
         requires seat { IsSeatOf F.mark self.now seat.old }
         ensures seat { IsSeatOf F.mark self.now seat.new }
-        ensures same { IsStep seat.old seat.new × (recorded seat.new ≡ recorded seat.old) }
+        ensures same { IsStep seat.old seat.new × StaysAtWant seat.old seat.new }
         ensures taken { IfOk result (λ _. (read seat.new ≡ 0) × HasTaken seat.old seat.new) }
         ensures mark { IfOk result (λ flight. F.mark flight ≡ turn_mark F.mark self.now) }
         ensures busy { IfErr result (λ b. (read seat.new ≡ b.holder) × (0 < b.holder)) }
         ensures refused { IfErr result (λ _. holds seat.new ≡ holds seat.old) }
         ensures holder { IfErr result (λ b. b.holder ≤ seats_of self.now) }
         ensures another { IfErr result (λ b. holds seat.old ≡ false → b.holder ≢ number seat.old) }
+        ensures itself { IfErr result (λ b. holds seat.old ≡ true → b.holder ≡ number seat.old) }
     {
         let shared = &self.table.shared;
         let found = shared.compare_exchange::<Try>(&mut seat.place, TURN, 0, seat.number);
@@ -110,32 +112,38 @@ impl<F: Kin + Drop> Turn<F> {
         requires held { holds seat.old ≡ true }
         requires mark { F.mark flight ≡ turn_mark F.mark self.now }
         ensures seat { IsSeatOf F.mark self.now seat.new }
-        ensures same { IsStep seat.old seat.new × (recorded seat.new ≡ recorded seat.old) }
+        ensures same { IsStep seat.old seat.new × StaysAtWant seat.old seat.new }
         ensures read { read seat.new ≡ read seat.old }
-        ensures given { holds seat.new ≡ false }
+        ensures given { (holds seat.new ≡ false) × (left seat.new ≡ Some flight) }
     {
         let shared = &self.table.shared;
         let _empty = shared.exchange(&mut seat.place, FLIGHT, Some(flight));
         shared.store::<GiveBack>(&mut seat.place, TURN, 0);
     }
 
-    /// Raises the want to the number, where it is below it.
+    /// Raises the want to the number, where it is below it. The want is 0 or a number to which some
+    /// seat raised it.
     pub fn raise_want(&self, seat: &mut TurnSeat<F>, n: u64)
         requires seat { IsSeatOf F.mark self.now seat.old }
         ensures seat { IsSeatOf F.mark self.now seat.new }
         ensures same { IsStep seat.old seat.new × StaysAtTurn seat.old seat.new }
         ensures raised { (n ≤ recorded seat.new) × (recorded seat.old ≤ recorded seat.new) }
+        ensures by { raised_to seat.new ≡ max n (raised_to seat.old) }
+        ensures alone { seats_of self.now ≡ 1 → recorded seat.new ≡ raised_to seat.new }
     {
         let shared = &self.table.shared;
         shared.fetch_max::<Raise>(&mut seat.place, WANT, n);
     }
 
-    /// The want: no less than this seat raised it to or read before.
+    /// The want: no less than this seat raised it to or read before. It is 0 or a number to which
+    /// some seat raised it.
     pub fn want(&self, seat: &mut TurnSeat<F>) -> u64
         requires seat { IsSeatOf F.mark self.now seat.old }
         ensures seat { IsSeatOf F.mark self.now seat.new }
         ensures same { IsStep seat.old seat.new × StaysAtTurn seat.old seat.new }
         ensures want { (result ≡ recorded seat.new) × (recorded seat.old ≤ result) }
+        ensures by { (raised_to seat.new ≡ raised_to seat.old) × (raised_to seat.old ≤ result) }
+        ensures alone { seats_of self.now ≡ 1 → result ≡ raised_to seat.new }
     {
         self.table.shared.load::<Ask>(&mut seat.place, WANT)
     }

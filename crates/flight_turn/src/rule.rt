@@ -28,6 +28,10 @@ pub struct Stand<F> {
     pub read: u64,
     /// The want as its last step on the want left it.
     pub want: u64,
+    /// The greatest number to which it raised the want.
+    pub raised_to: u64,
+    /// The flight that lay in the slot as it gave the turn back last.
+    pub left: Option<F>,
     /// A flight of the turn's mark.
     pub like: Option<F>,
 }

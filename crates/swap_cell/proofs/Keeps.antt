@@ -1,7 +1,7 @@
 -- Each kind of step on the table of a cell keeps its rule.
-use Rattle.std.proofs.Common.{◌≡◌, ◌≢◌, ◌⊎◌, ℕ, zero, suc, ◌+◌, ◌*◌, ◌<◌, ◌≤◌, true, eqb, max, Option, Some, None, List, [], ◌∷◌, ◌++◌, length, map, All, get_or, set, sym, refl, ap, ◌∙◌, subst, inl, inr, ⊎_elim, le_refl, length-set, get_or-set_same, arith, rules}
-use Rattle.std.proofs.lemmas.Bool.{false≢true}
-use Rattle.std.proofs.lemmas.List.{set-get_or, get_or-set_other}
+use Rattle.std.proofs.Common.{◌≡◌, ◌≢◌, ◌⊎◌, ℕ, zero, suc, ◌+◌, ◌*◌, ◌<◌, ◌≤◌, true, eqb, max, Option, Some, None, List, [], ◌∷◌, ◌++◌, length, map, All, get_or, set, drop, sym, refl, ap, ◌∙◌, subst, inl, inr, ⊎_elim, le_refl, length-set, get_or-set_same, arith, rules}
+use Rattle.std.proofs.lemmas.Bool.{false≢true, cases_lt}
+use Rattle.std.proofs.lemmas.List.{set-get_or, get_or-set_other, drop-map}
 use mathlib.Core.Logic.{dite}
 use mathlib.Core.Option.{some, none, some-injective, some-ne-none}
 use mathlib.Core.Option as maybe
@@ -13,8 +13,10 @@ use Rattle.atomic_table.specs.Table.{State, Me, Act, takes, gives, keeps, step, 
 use Rattle.atomic_table.proofs.Lists.{at_set, set_here, set_else, set_again, at_longer, at_last, some_there, exchanged}
 use Rattle.swap_cell.specs.declared.board.Item.{Item}
 use Rattle.swap_cell.specs.declared.board.Sight.{Sight}
-use Rattle.swap_cell.specs.Rule.{Each, On, seated, Fits, IsGrowing, Rules, Kept, item, setter}
-use Rattle.swap_cell.specs.Steps.{locked, freed, swapped, appended, looked, follower, learnt, renewed, spent}
+use Rattle.swap_cell.specs.declared.handles.Viewer.{Viewer}
+use Rattle.swap_cell.specs.Cells.{HaveSlots, value_of, viewer_slot}
+use Rattle.swap_cell.specs.Rule.{Each, InLine, On, seated, Fits, IsGrowing, Rules, Kept, item, setter}
+use Rattle.swap_cell.specs.Steps.{locked, freed, swapped, appended, looked, lined, follower, learnt, renewed, spent}
 
 none_some : {A : Type 0} (a : A) → None ≡ Some a → ⊥
 none_some a e = search rules
@@ -54,12 +56,20 @@ same_head l j k a b xs ys e f = ap (λ z. headed z a) (sym e ∙ f)
 pub one_slot : {T : Type 0} (m : Me (Item T) (Sight T)) (w : Sight T) (r : ℕ) (y : Item T) (c : List (ℕ × Item T)) → m ≡ (w, (r, y) ∷ c) → c ≡ [] → m ≡ (w, (r, y) ∷ [])
 one_slot m w r y c e f = e ∙ ap (λ z. (w, (r, y) ∷ z)) f
 
--- what holds of each element and of one more
+-- what holds of each element at its place, and of one more
+pub at_more : {A : Type 0} (P : ℕ → A → Type 0) (xs : List A) (x : A) → ((i : ℕ) (d : A) → i < length xs → P i (get_or xs i d)) → P (length xs) x
+    → (i : ℕ) (d : A) → i < length (xs ++ x ∷ []) → P i (get_or (xs ++ x ∷ []) i d)
+at_more P [] x all last zero d h = last
+at_more P [] x all last (suc k) d h = absurd (omega arith)
+at_more P (y ∷ ys) x all last zero d h = all zero d (omega arith)
+at_more P (y ∷ ys) x all last (suc k) d h = at_more (λ i. P (suc i)) ys x (λ j e g. all (suc j) e (omega arith)) last k d (omega arith)
+
 pub all_more : {A : Type 0} (P : A → Type 0) (xs : List A) (x : A) → All P xs → P x → All P (xs ++ x ∷ [])
-all_more P [] x all last zero d h = last
-all_more P [] x all last (suc k) d h = absurd (omega arith)
-all_more P (y ∷ ys) x all last zero d h = all zero d (omega arith)
-all_more P (y ∷ ys) x all last (suc k) d h = all_more P ys x (λ j e g. all (suc j) e (omega arith)) last k d (omega arith)
+all_more P = at_more (λ _. P)
+
+-- one more viewer, with the next slot
+pub slots_more : {T : Type 0} (xs : List (Viewer T)) (x : Viewer T) → HaveSlots xs → viewer_slot x ≡ length xs → HaveSlots (xs ++ x ∷ [])
+slots_more xs x all last = at_more (λ i v. viewer_slot v ≡ i) xs x all last
 
 pub some_word : (z z' : TableId) → z ≡ z' → z.words ≡ 16 * z.slots → 0 < z.slots → 0 < z'.words
 some_word z z' e wide least = subst (λ (q : TableId). 0 < q.words) e (omega arith)
@@ -92,6 +102,16 @@ each_append P (x ∷ xs) ys hx hy = (hx.0, each_append P xs ys hx.1 hy)
 pub each_of_map : {A B : Type 0} (f : A → B) (P : B → Type 0) (xs : List A) → Each (λ x. P (f x)) xs → Each P (map f xs)
 each_of_map f P [] h = tt
 each_of_map f P (x ∷ xs) h = (h.0, each_of_map f P xs h.1)
+
+-- what holds of each pair of the values of items
+pub line_of_items : {T : Type 0} (extends : T → T → Type 0) (xs : List (Item T)) → InLine (λ a b. extends a.value b.value) xs → InLine extends (map value_of xs)
+line_of_items extends xs h = each_of_map value_of (λ x. Each (λ y. extends x y ⊎ extends y x) (map value_of xs)) xs
+    (each_map (λ a. Each (λ b. extends a.value b.value ⊎ extends b.value a.value) xs) (λ a. Each (λ y. extends a.value y ⊎ extends y a.value) (map value_of xs)) xs
+    (λ a t. each_of_map value_of (λ y. extends a.value y ⊎ extends y a.value) xs t) h)
+
+-- the values of a list of items that begins with one
+pub begins_value : {T : Type 0} (xs : List (Item T)) (x : Item T) → xs ≡ x ∷ drop 1 xs → map value_of xs ≡ x.value ∷ drop 1 (map value_of xs)
+begins_value xs x e = ap (map value_of) e ∙ ap (λ z. x.value ∷ z) (sym (drop-map value_of 1 xs))
 
 -- what a seat has that took a slot, after steps that found it taken
 pub has_locked : {T : Type 0} (m m' m0 : Me (Item T) (Sight T)) (r : ℕ) (y : Item T) → m' ≡ (record m.0 { found = Some y; slot = r + 1 }, (r, y) ∷ m.1) → m ≡ m0 → m0.1 ≡ []
@@ -276,6 +296,30 @@ module _ {T : Type 0} (extends : T → T → Type 0) where
             (each_map (λ (q : Item T). On chain q × (q.number ≤ v.most)) (λ (q : Item T). extends x.value q.value) v.known (λ q t. let low = t.1 in k.grows q.number x.number q.value x.value (omega arith) t.0 on) h.knows, refl)),
       )
 
+  -- of two on the chain the one with the greater number extends the other
+  in_line : (chain : List T) (a b : Item T) → IsGrowing extends chain → On chain a → On chain b → extends a.value b.value ⊎ extends b.value a.value
+  in_line chain a b grows ona onb = ⊎_elim
+      (λ (lt : a.number < b.number). inr (grows a.number b.number a.value b.value (omega arith) ona onb))
+      (λ (le : b.number ≤ a.number). inl (grows b.number a.number b.value a.value le onb ona)) (cases_lt a.number b.number)
+
+  pub lines : (slots id i : ℕ) (me : Sat) → Allows (Kept extends) slots id me i (λ n. n) (lined extends (step slots i 0 0 none) me)
+  lines slots id i me s kept len at lt =
+      let v : Sight T = me.0 in let chain = kept.0 in let k = kept.1 in let h = k.each id v at in
+      let known = each_map (λ (q : Item T). On chain q × (q.number ≤ v.most)) (On chain) v.known (λ q t. t.0) h.knows in (
+        v,
+        keeps,
+        tt,
+        (
+          chain,
+          subst (λ (ws : List ℕ). Rules extends chain (laid ws s.homes (set s.views id v))) (sym (set-get_or s.words i 0)) (stands s chain i id v v k at h refl (λ z. z)),
+        ),
+        (
+          refl,
+          each_map (On chain) (λ a. Each (λ b. extends a.value b.value ⊎ extends b.value a.value) v.known) v.known
+              (λ a ona. each_map (On chain) (λ b. extends a.value b.value ⊎ extends b.value a.value) v.known (λ b onb. in_line chain a b k.grows ona onb) known) known,
+        ),
+      )
+
   pub tells : (id : ℕ) (v : Sight T) → Splits (Kept extends) id v v (follower v)
   tells id v s kept at =
       let chain = kept.0 in let k = kept.1 in let h = k.each id v at in let n : Sight T = follower v in (
@@ -365,7 +409,7 @@ module _ {T : Type 0} (extends : T → T → Type 0) where
 
       pub appends : (slots id : ℕ) (me : Sat) (last next : Item T) → me.0.sets ≡ true → me.0.mine ≡ Some last → me.0.most ≡ last.number → length me.0.chain ≡ last.number + 1
           → next.number ≡ last.number + 1 → extends next.value last.value
-          → Allows (Kept extends) slots id me 0 (λ n. either (eqb n 2) 2 n) (appended (step slots 0 2 2 (some next)) me)
+          → Allows (Kept extends) slots id me 0 (λ n. either (eqb n 2) 2 n) (appended extends (step slots 0 2 2 (some next)) me)
       appends slots id me last next on has most count number more s kept len at lt =
           let v : Sight T = me.0 in let chain : List T = v.chain in let k : Rules extends chain s = subst (λ (z : List T). Rules extends z s) (sym ((kept.1.each id v at).all on)) kept.1 in
           let h = k.each id v at in let chain' : List T = chain ++ next.value ∷ [] in
@@ -399,5 +443,9 @@ module _ {T : Type 0} (extends : T → T → Type 0) where
                   })
                   (λ i u ne e pos same. ne (sym (k.own id i v u at e pos same))) (λ z. z)),
             ),
-            (λ x e. subst (λ (z : Item T). ◌≡◌ {A = Sat} (w, me.1) (record v { known = z ∷ v.known; most = z.number; mine = Some z; chain = chain ++ z.value ∷ [] }, me.1)) (some-injective next x e) refl),
+            (λ x e. subst (λ (z : Item T). Each (λ q. extends z.value q.value) v.known × ◌≡◌ {A = Sat} (w, me.1) (record v { known = z ∷ v.known; most = z.number; mine = Some z; chain = chain ++ z.value ∷ [] }, me.1)) (some-injective next x e) (
+              each_map (λ (q : Item T). On chain q × (q.number ≤ v.most)) (λ (q : Item T). extends next.value q.value) v.known
+                  (λ q t. let low = t.1 in transitive next.value last.value q.value more (k.grows q.number last.number q.value last.value (omega arith) t.0 (h.mine last has))) h.knows,
+              refl,
+            )),
           )

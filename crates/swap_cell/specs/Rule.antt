@@ -1,6 +1,6 @@
 -- The rule of a cell. What was set is a chain, in which each value extends those before it. All that
 -- lies in a slot and all that a seat knows stands on the chain, at its number.
-use Rattle.std.specs.Prelude.{◌≡◌, ◌≢◌, ℕ, ◌+◌, ◌*◌, ◌<◌, ◌≤◌, true, List, [], ◌∷◌, length, slice_index, Option, Some, None}
+use Rattle.std.specs.Prelude.{◌≡◌, ◌≢◌, ◌⊎◌, ℕ, ◌+◌, ◌*◌, ◌<◌, ◌≤◌, true, List, [], ◌∷◌, length, slice_index, Option, Some, None}
 use mathlib.Core.Option.{some}
 use lib.ListN.{get_elem?}
 use Rattle.atomic_table.specs.Table.{State}
@@ -11,6 +11,10 @@ use Rattle.swap_cell.specs.declared.board.Sight.{Sight}
 abbrev pub Each : {A : Type 0} → (A → Type 0) → List A → Type 0
 Each P [] = Unit {0}
 Each P (x ∷ xs) = P x × Each P xs
+
+-- of any two the first extends the second, or the second the first
+abbrev pub InLine : {T : Type 0} → (T → T → Type 0) → List T → Type 0
+InLine extends xs = Each (λ x. Each (λ y. extends x y ⊎ extends y x) xs) xs
 
 module _ {T : Type 0} where
   -- the item is the value of that number on the chain

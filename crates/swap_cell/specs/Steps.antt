@@ -7,7 +7,7 @@ use Rattle.atomic_table.specs.Seated.{TableId}
 use Rattle.atomic_table.specs.declared.shared.Seat.{Seat}
 use Rattle.swap_cell.specs.declared.board.Item.{Item}
 use Rattle.swap_cell.specs.declared.board.Sight.{Sight}
-use Rattle.swap_cell.specs.Rule.{Each}
+use Rattle.swap_cell.specs.Rule.{Each, InLine}
 
 abbrev Sat : Type 0 → Type 0
 Sat T = Me (Item T) (Sight T)
@@ -27,15 +27,19 @@ module _ {T : Type 0} where
   abbrev pub swapped : Step (Item T) → Sat T → ℕ → Sat T → Type 0
   swapped st m n m' = m' ≡ (record m.0 { slot = 0; mine = m.0.found }, rest m.1)
 
-  -- the setter sets the value that the step announces
-  abbrev pub appended : Step (Item T) → Sat T → ℕ → Sat T → Type 0
-  appended st m n m' = (x : Item T) → st.said ≡ some x
-      → m' ≡ (record m.0 { known = x ∷ m.0.known; most = x.number; mine = Some x; chain = m.0.chain ++ x.value ∷ [] }, m.1)
+  -- the setter sets the value that the step announces, which extends all that it knows
+  abbrev pub appended : (T → T → Type 0) → Step (Item T) → Sat T → ℕ → Sat T → Type 0
+  appended extends st m n m' = (x : Item T) → st.said ≡ some x
+      → Each (λ k. extends x.value k.value) m.0.known × (m' ≡ (record m.0 { known = x ∷ m.0.known; most = x.number; mine = Some x; chain = m.0.chain ++ x.value ∷ [] }, m.1))
 
   -- what the seat has extends all that it knows, and is known
   abbrev pub looked : (T → T → Type 0) → Step (Item T) → Sat T → ℕ → Sat T → Type 0
   looked extends st m n m' = (x : Item T) → m.0.mine ≡ Some x
       → Each (λ k. extends x.value k.value) m.0.known × (m' ≡ (record m.0 { known = x ∷ m.0.known; most = x.number }, m.1))
+
+  -- all that the seat knows is in line
+  abbrev pub lined : (T → T → Type 0) → Step (Item T) → Sat T → ℕ → Sat T → Type 0
+  lined extends st m n m' = (m' ≡ m) × InLine (λ a b. extends a.value b.value) m.0.known
 
   -- a seat that knows as much, and has the same
   abbrev pub follower : Sight T → Sight T

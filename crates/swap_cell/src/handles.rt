@@ -1,5 +1,5 @@
 //! The two ends of a cell, and what one tells the other.
-ghost use Rattle.std.specs.Prelude.{◌≡◌, ◌+◌, ◌*◌, ◌<◌, ◌≤◌, true, [], length, Some};
+ghost use Rattle.std.specs.Prelude.{◌≡◌, ◌+◌, ◌*◌, ◌<◌, ◌≤◌, true, [], ◌∷◌, drop, length, Some};
 ghost use Rattle.std.specs.Arc.{arc_value};
 
 use crate::board::{Board, Item, Place};
@@ -21,6 +21,7 @@ pub struct Setter<T: Grows + Drop> {
     ghost filled: { 0 < place.table_id.slots },
     ghost sets: { place.me.0.sets ≡ true },
     ghost has: { place.me.0.mine ≡ Some last },
+    ghost knows: { place.me.0.known ≡ last ∷ drop 1 place.me.0.known },
     ghost most: { place.me.0.most ≡ last.number },
     ghost counts: { length place.me.0.chain ≡ last.number + 1 },
     ghost empty: { room.items ≡ [] },

@@ -1,6 +1,6 @@
 //! What makes a cell.
 ghost use Rattle.std.specs.Prelude.{◌≡◌, ◌<◌, ◌≤◌, ◌∷◌, [], All, length, IfOk};
-ghost use Rattle.swap_cell.specs.Cells.{Follows, StaysSet, setter_cell, last_set, set_before};
+ghost use Rattle.swap_cell.specs.Cells.{Follows, HaveSlots, StaysSet, setter_cell, viewer_slot, last_set, set_before};
 
 use crate::board::{Item, STRIDE};
 use crate::handles::{Setter, Viewer};
@@ -23,6 +23,7 @@ pub fn cell<T: Grows + Drop>(
     ensures set { IfOk result (λ r. set_before r.0 ≡ first ∷ []) }
     ensures count { IfOk result (λ r. length r.1.items ≡ viewers) }
     ensures viewers { IfOk result (λ r. All (Follows r.0) r.1.items) }
+    ensures slots { IfOk result (λ r. HaveSlots r.1.items) }
 {
     let count = viewers as usize;
     let mut setter = setter(
@@ -68,6 +69,7 @@ fn viewer<T: Grows + Drop>(setter: &mut Setter<T>, index: usize) -> Result<Viewe
     ensures cell { setter_cell setter.new ≡ setter_cell setter.old }
     ensures same { StaysSet setter.old setter.new }
     ensures viewer { IfOk result (Follows setter.old) }
+    ensures slot { IfOk result (λ v. viewer_slot v ≡ index) }
 {
     let board = Arc::try_clone(&setter.board)?;
     let value = setter.last.value.share()?;

@@ -34,10 +34,10 @@ impl<T> Play<Item<T>, Sight<T>> for Swap {
 /// A value is set.
 pub struct Append;
 
-impl<T> Play<Item<T>, Sight<T>> for Append {
+impl<T: Grows> Play<Item<T>, Sight<T>> for Append {
     ghost use Rattle.swap_cell.specs.Steps.{appended};
 
-    ghost then = { appended };
+    ghost then = { appended T.extends };
 }
 
 /// A value is looked at.
@@ -47,6 +47,15 @@ impl<T: Grows> Play<Item<T>, Sight<T>> for Look {
     ghost use Rattle.swap_cell.specs.Steps.{looked};
 
     ghost then = { looked T.extends };
+}
+
+/// What was learnt is of one chain with what was known.
+pub struct Line;
+
+impl<T: Grows> Play<Item<T>, Sight<T>> for Line {
+    ghost use Rattle.swap_cell.specs.Steps.{lined};
+
+    ghost then = { lined T.extends };
 }
 
 /// A seat tells another all that it knows.

@@ -1,5 +1,6 @@
 //! What the setter does.
-ghost use Rattle.std.specs.Prelude.{◌≡◌, ◌<◌, ◌≤◌, [], All, Some, length, IfOk, IfErr};
+ghost use Rattle.std.specs.Prelude.{◌≡◌, ◌<◌, ◌≤◌, [], ◌∷◌, All, Some, drop, length, IfOk, IfErr};
+ghost use Rattle.swap_cell.specs.Rule.{Each};
 ghost use Rattle.swap_cell.specs.Steps.{IsAt, IsFree, HasTaken, IsHanding};
 ghost use Rattle.swap_cell.specs.Cells.{HasSet, StaysSet, setter_cell, told_cell, last_set, set_before, told_values};
 
@@ -31,7 +32,12 @@ pub(crate) fn share_to<T: Grows + Drop>(
 }
 
 // Waits until the slot is at home, and takes it.
-fn lock<T: Grows + Drop, W: Wait>(board: &Board<T>, place: &mut Place<T>, w: &W, index: usize)
+pub(crate) fn lock<T: Grows + Drop, W: Wait>(
+    board: &Board<T>,
+    place: &mut Place<T>,
+    w: &W,
+    index: usize,
+)
     requires table { IsAt board.now.shared.table_id place.old × (index < place.old.table_id.slots) }
     requires free { place.old.me.1 ≡ [] }
     ensures { HasTaken index place.old place.new }
@@ -96,6 +102,7 @@ impl<T: Grows + Drop> Setter<T> {
         requires { T.extends value (last_set self.old) }
         ensures cell { setter_cell self.new ≡ setter_cell self.old }
         ensures set { IfOk result (λ _. HasSet self.old self.new value) }
+        ensures chain { IfOk result (λ _. Each (T.extends value) (set_before self.old)) }
         ensures back { IfErr result (λ e. (e.value ≡ value) × StaysSet self.old self.new) }
     {
         let Some(number) = self.last.number.checked_add(1) else {
@@ -120,6 +127,7 @@ impl<T: Grows + Drop> Setter<T> {
         ensures cell { told_cell result ≡ setter_cell self.old }
         ensures here { setter_cell self.new ≡ setter_cell self.old }
         ensures told { told_values result ≡ set_before self.old }
+        ensures last { set_before self.old ≡ last_set self.old ∷ drop 1 (set_before self.old) }
         ensures same { StaysSet self.old self.new }
     {
         let number = self.last.number;

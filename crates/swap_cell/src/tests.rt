@@ -1,6 +1,7 @@
 ghost use Rattle.std.specs.Prelude.{◌≡◌, ◌≤◌};
-ghost use Rattle.swap_cell.specs.Cells.{last_set};
+ghost use Rattle.swap_cell.specs.Cells.{last_set, viewer_cell};
 
+use crate::setting::lock;
 use crate::{SetBack, Setter, Viewer, cell};
 use dp_base::{Grows, Memory};
 use std::sync::atomic::{AtomicU64, Ordering};
@@ -54,6 +55,50 @@ fn one_sets_and_two_look(mut rt: HostRuntime) -> Result<(), Fail> {
     Ok(())
 }
 
+// How many of 100 looks find no memory.
+fn refusals(viewer: &mut Viewer<Level>) -> u64
+    ensures { viewer_cell viewer.new ≡ viewer_cell viewer.old }
+{
+    let mut count = 0;
+    for _ in 0..100u64 {
+        if viewer.look().is_err() {
+            count = u64::wrapping_add(count, 1);
+        }
+    }
+    count
+}
+
+// While the setter has a viewer's slot, the viewer goes on with what it had, and what it is told
+// reaches it. No look finds too little memory.
+#[test]
+fn one_is_told_whose_slot_is_held(mut rt: HostRuntime) -> Result<(), Fail> {
+    let (mut setter, mut viewers) = cell(rt.alloc(), Level { metres: 1 }, 2)?;
+    let (Some(mut second), Some(mut first)) = (viewers.pop(), viewers.pop()) else {
+        panic!(rt; "there are two viewers")
+    };
+    if setter.set(&mut rt, Level { metres: 5 }).is_err() {
+        panic!(rt; "there is memory")
+    }
+    let told = setter.tell();
+    let Setter {
+        board,
+        mut place,
+        last: _,
+        room: _,
+    } = setter;
+    lock(&board, &mut place, &rt, 0);
+    let untold = first.look()?;
+    let beside = second.look()?;
+    let before = refusals(&mut first);
+    first.learn(told);
+    let learnt = first.look()?;
+    let after = refusals(&mut first);
+    let others = refusals(&mut second);
+    assert_eq!(rt; (untold.metres, beside.metres, learnt.metres), (1, 5, 5));
+    assert_eq!(rt; (before, after, others), (0, 0, 0));
+    Ok(())
+}
+
 const LAST: u64 = 10_000;
 
 /// What the threads count.
@@ -61,8 +106,10 @@ const LAST: u64 = 10_000;
 struct Counts {
     // 1 when the setter is done.
     over: AtomicU64,
-    // The looks that went back or found no memory.
+    // The looks that went back, and the sets that were refused.
     faults: AtomicU64,
+    // The looks that found no memory.
+    refusals: AtomicU64,
     // The viewers whose last look showed the last level.
     at_last: AtomicU64,
 }
@@ -91,8 +138,11 @@ fn look_often(viewer: &mut Viewer<Level>, counts: &Counts) {
         let over = counts.over.load(Ordering::SeqCst);
         match viewer.look() {
             Ok(level) if level.metres >= seen => seen = level.metres,
-            _ => {
+            Ok(_) => {
                 counts.faults.fetch_add(1, Ordering::SeqCst);
+            }
+            Err(_) => {
+                counts.refusals.fetch_add(1, Ordering::SeqCst);
             }
         }
         if over == 1 {
@@ -104,7 +154,8 @@ fn look_often(viewer: &mut Viewer<Level>, counts: &Counts) {
     }
 }
 
-// One thread sets 10,000 levels while seven look: no look goes back, and the last shows the last.
+// One thread sets 10,000 levels while seven look: no look goes back or finds no memory, and the last
+// shows the last.
 #[test]
 fn seven_look_while_one_sets(rt: HostRuntime) -> Result<(), Fail> {
     let (setter, mut viewers) = cell(rt.alloc(), Level { metres: 0 }, 7)?;
@@ -114,6 +165,7 @@ fn seven_look_while_one_sets(rt: HostRuntime) -> Result<(), Fail> {
         Counts {
             over: AtomicU64::new(0),
             faults: AtomicU64::new(0),
+            refusals: AtomicU64::new(0),
             at_last: AtomicU64::new(0),
         },
     )?;
@@ -126,7 +178,8 @@ fn seven_look_while_one_sets(rt: HostRuntime) -> Result<(), Fail> {
     thread::for_each_mut(&rt, viewers.as_mut_slice(), 7, &look);
     child.join(&rt);
     let faults = counts.faults.load(Ordering::SeqCst);
+    let refusals = counts.refusals.load(Ordering::SeqCst);
     let at_last = counts.at_last.load(Ordering::SeqCst);
-    assert_eq!(rt; (faults, at_last), (0, 7));
+    assert_eq!(rt; (faults, refusals, at_last), (0, 0, 7));
     Ok(())
 }

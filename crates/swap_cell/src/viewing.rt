@@ -1,11 +1,12 @@
 //! What a viewer does.
 ghost use Rattle.std.specs.Prelude.{◌≡◌, ◌<◌, Some, IfOk, IfErr};
+ghost use Rattle.swap_cell.specs.Rule.{InLine};
 ghost use Rattle.swap_cell.specs.Steps.{IsAt, IsFree, StaysKnown};
 ghost use Rattle.swap_cell.specs.Cells.{HasLooked, HasLearnt, viewer_cell, viewer_slot, told_cell, known};
 
 use crate::board::{Board, Item, Place, STRIDE};
 use crate::handles::{Told, Viewer};
-use crate::plays::{Free, Learn, Lock, Look, Renew, Swap};
+use crate::plays::{Free, Learn, Line, Lock, Look, Renew, Swap};
 use dp_base::{Grows, Memory};
 use std::mem;
 
@@ -57,8 +58,20 @@ impl<T: Grows + Drop> Viewer<T> {
         Ok(value)
     }
 
-    /// Learns what was told. From now on a look extends it.
+    /// Learns what was told. From now on a look extends it. All that is known is of one chain.
     pub fn learn(&mut self, told: Told<T>)
+        requires cell { told_cell told ≡ viewer_cell self.old }
+        ensures cell { viewer_cell self.new ≡ viewer_cell self.old }
+        ensures slot { viewer_slot self.new ≡ viewer_slot self.old }
+        ensures learnt { HasLearnt told self.old self.new }
+        ensures in_line { InLine T.extends (known self.new) }
+    {
+        self.take_in(told);
+        let word = STRIDE * self.index;
+        self.board.shared.load::<Line>(&mut self.place, word);
+    }
+
+    fn take_in(&mut self, told: Told<T>)
         requires cell { told_cell told ≡ viewer_cell self.old }
         ensures cell { viewer_cell self.new ≡ viewer_cell self.old }
         ensures slot { viewer_slot self.new ≡ viewer_slot self.old }

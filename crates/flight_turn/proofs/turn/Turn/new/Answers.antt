@@ -13,4 +13,4 @@ pub returns-clause-each : goal.returns-clause-each
 returns-clause-each g c i d within = of_fresh g.F.Kin.mark _ _ _ (c.in_ok-made.ensures.each i _ (slice_get-get_or _ i d within))
 
 pub returns-clause-fresh : goal.returns-clause-fresh
-returns-clause-fresh g c i d within = let v = (c.in_ok-made.ensures.each i _ (slice_get-get_or _ i d within)).1 in (ap (λ z. z.number) v, ap (λ z. z.holds) v, ap (λ z. z.want) v)
+returns-clause-fresh g c i d within = let v = (c.in_ok-made.ensures.each i _ (slice_get-get_or _ i d within)).1 in (ap (λ z. z.number) v, ap (λ z. z.holds) v, ap (λ z. z.want) v, ap (λ z. z.raised_to) v)

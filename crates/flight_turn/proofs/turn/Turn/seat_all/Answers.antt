@@ -11,7 +11,7 @@ join_seat-requires g c = let m = c.make-last.ensures.maker in (
   m.0,
   ap (λ z. z.1) m.1,
   search rules,
-  takes_in g.F.Kin.mark _ _ _ _ _ _,
+  takes_in g.F.Kin.mark _ _ _ _ _ _ (ap (λ z. z.0.raised_to) m.1),
 )
 
 pub returns-clause-each : goal.returns-clause-each

@@ -1,11 +1,13 @@
-use Rattle.std.proofs.Common.{ap, ◌∙◌, sym, arith}
-use Rattle.swap_cell.proofs.Keeps.{learns, renews, some_word}
+use Rattle.std.proofs.Common.{ap, ◌∙◌, sym, subst, map}
+use Rattle.swap_cell.specs.Rule.{InLine}
+use Rattle.swap_cell.specs.Cells.{value_of}
+use Rattle.swap_cell.proofs.Keeps.{lines, line_of_items, word_within}
 use Rattle.swap_cell.proofs.handles.Viewer.learn.Goals as goal
 
-pub join_seat-requires : goal.join_seat-requires
-join_seat-requires g c = let me = c.args.self.now in let e = me.seated ∙ ap (λ z. z.shared.table_id) (sym c.deref.ensures) in let within = me.within in
-    (e, c.requires.cell ∙ e, c.args.told.apart, some_word _ _ e me.sized.0 (omega arith), renews g.T.Grows.extends _ _ _ _)
+pub load-requires : goal.load-requires
+load-requires g c = let me = c.take_in.new.self in let e = me.seated ∙ ap (λ z. z.shared.table_id) (sym c.deref.ensures) in
+    (e, word_within _ _ _ e me.sized.0 me.within, lines g.T.Grows.extends _ _ _ _)
 
-pub join_seat-requires-in_default : goal.join_seat-requires-in_default
-join_seat-requires-in_default g c = let me = c.args.self.now in let e = me.seated ∙ ap (λ z. z.shared.table_id) (sym c.deref-in_default.ensures) in let within = me.within in
-    (e, c.requires.cell ∙ e, c.args.told.apart, some_word _ _ e me.sized.0 (omega arith), learns g.T.Grows.extends _ _ _ _)
+pub returns-clause-in_line : goal.returns-clause-in_line
+returns-clause-in_line g c = let t = c.load.ensures.2 in
+    subst (λ m. InLine g.T.Grows.extends (map value_of m.0.known)) (sym t.0) (line_of_items g.T.Grows.extends _ t.1)

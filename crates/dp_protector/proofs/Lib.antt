@@ -1,6 +1,6 @@
 mod Bodies
 mod Codes
-mod Defaults
+pub mod Defaults
 mod Everywhere
 mod Forms
 mod Heads

@@ -23,7 +23,9 @@ use Rattle.ring_world.specs.Placing as placing
 use Rattle.ring_world.specs.Placing.{Asked, Placing, Placed, Undrawn, Unplaced, Overfull, Receded, PlacePath, place_course, place_end, draw_steps}
 use Rattle.dp_node.specs.declared.error.NodeError.{NodeError}
 use Rattle.dp_node.specs.declared.error.NodeError.TheVariants as errors
-use Rattle.dp_node.specs.Books.{Books, Does, tally, draws_failed}
+use Rattle.dp_node.specs.Books as node
+use Rattle.dp_node.specs.Books.{Books, Does, acts, tally, draws_failed}
+use Rattle.dp_node.specs.HostState.{HostState, latest}
 use Rattle.dp_node.specs.Gather.{refusal}
 use Rattle.dp_node.proofs.Books.{IsFrontOf-le, draws_failed-append, tally_faults-append, tally_shorts-append, tally_fulls-append}
 use Rattle.dp_wire.specs.declared.request.BadRequest.{BadRequest}
@@ -32,11 +34,13 @@ use Rattle.dp_wire.specs.Request.{Request, Ring, Roll, Revoke, RevokeBefore, Pro
 use Rattle.dp_session.specs.declared.trace.Entry.{Entry}
 use Rattle.dp_session.specs.declared.trace.Used.{Used}
 use Rattle.dp_session.specs.declared.trace.Used.TheVariants as used
-use Rattle.dp_session.specs.Fresh.{IsFresh, AreFresh, AreCounted, IsCounted, AreCountedBy, draw_faults, no_memory}
+use Rattle.dp_session.specs.Fresh.{IsFresh, IsFreshUse, AreFresh, AreCounted, IsCounted, AreCountedBy, all_steps, draw_faults, no_memory}
 use Rattle.dp_session.specs.Needs.{need_of}
 use Rattle.dp_session.specs.Serving.{State, IsEntry, Serves, unread, unstarted, misdated, by_ring, by_place, Follows, refused, answered as answered_by, undrawn, stopped, lost, unheard, IsByPlace, IsNeed, before, after, Asks}
 use Rattle.dp_session.specs.Session.{Chain, front_of, has_list}
+use Rattle.dp_session.proofs.Paths.{placed_last}
 use Rattle.dp_session.proofs.Sessions.{HasFront, serves_front}
+use Rattle.dp_session.proofs.Sums.{acts-both, call_noted, call_all_noted, place_noted, place_all_noted}
 
 enough_need : (need : ℕ) (own : List Element) (x : Result RingOf Refusal) (r : RingOf) → answered need x ≡ Ok r → need ≤ length r.list
 enough_need need own (Ok y) r e = within (nat_le need (length y.list)) refl e
@@ -83,8 +87,8 @@ serves_need q now u drawn old new (by_ring p e needs good r between x bytes d f)
     omega (arith, ap need_of e, follows_need _ p r new.host.own x.course u bytes between new.draws x.is f h)
 serves_need q now u drawn old new (by_place p e good a asks r x d v) h = omega (arith, ap need_of e, asks_none p now old.host.own new.store.list a asks)
 
-kept_need : (need asked : ℕ) (u : Used) → IsNeed need asked u → has_list u ≡ true → need ≡ asked
-kept_need need asked u n h = ⊎_elim (λ e. e) (λ e. absurd (unlisted_none u used.NoMemory e.1 refl h)) n
+kept_need : (need asked : ℕ) (u : Used) (steps : List Step) (drawn : List ℕ) → IsNeed need asked u steps drawn → has_list u ≡ true → need ≡ asked
+kept_need need asked u steps drawn n h = ⊎_elim (λ e. e) (λ e. absurd (unlisted_none u used.NoMemory e.1 refl h)) n
 
 front_seen : (u : Used) (own : List Element) → HasFront u own → has_list u ≡ true → front_of u ≡ length own
 front_seen (used.Ring front made_at) own f h = f
@@ -100,12 +104,55 @@ front_within (used.Refused why) own f = omega arith
 front_within (used.BadRequest place) own f = omega arith
 front_within used.NoMemory own f = omega arith
 
+asks_own : (p : Request) (now : ℕ) (own : List Element) (told : Option (List Element)) (a : Asked) → Asks p now own told a → a.own ≡ own
+asks_own (Roll activation expiration code) now own told a h = ap (λ (x : Asked). x.own) h
+asks_own (Revoke id reason) now own told a h = ap (λ (x : Asked). x.own) h
+asks_own (RevokeBefore date reason) now own told a h = ap (λ (x : Asked). x.own) h
+asks_own (Ring need) now own told a h = absurd h
+asks_own (Protect need chain plain) now own told a h = absurd h
+asks_own (Unprotect need allow chain payload) now own told a h = absurd h
+asks_own (ProtectText need chain text) now own told a h = absurd h
+asks_own (UnprotectText need allow chain text) now own told a h = absurd h
+asks_own (ProtectTimed need chain expiry plain) now own told a h = absurd h
+asks_own (UnprotectTimed need allow chain payload) now own told a h = absurd h
+
+unplaced : (p : Request) (r : Result RingOf Refusal) (u : Used) (bytes : List ℕ) (old new : DrawState) (place : ℕ) → Follows p r u bytes old new → u ≡ used.Placed place → ⊥
+unplaced p r u bytes old new place (refused why e k v b s) h = cc
+unplaced p r u bytes old new place (answered_by ring e v n s) h = cc
+unplaced p r u bytes old new place (undrawn ring e k v b s) h = cc
+unplaced p r u bytes old new place (stopped v b s) h = cc
+unplaced p r u bytes old new place (lost ring e v n s) h = cc
+unplaced p r u bytes old new place (unheard ring e k v b s) h = cc
+
+-- what is placed needs nothing, and stands behind all that was seen
+serves_placed : (q : Result Request BadRequest) (now : ℕ) (u : Used) (drawn : List ℕ) (old new : Books) (place : ℕ) → Serves q now u drawn old new → u ≡ used.Placed place → (need_of q ≡ 0) × (length old.host.own ≤ place)
+serves_placed q now u drawn old new place (unread why e v d same) h = cc
+serves_placed q now u drawn old new place (unstarted v d same) h = cc
+serves_placed q now u drawn old new place (misdated p e bad v d same) h = cc
+serves_placed q now u drawn old new place (by_ring p e needs good r between x bytes d f) h = absurd (unplaced p r u bytes between new.draws place f h)
+serves_placed q now u drawn old new place (by_place p e good a asks r x d v) h =
+    let last = placed_last a place new.host.own x.course (subst (λ (y : Result ℕ Refusal). PlacePath a y new.host.own x.course) (subst (IsByPlace r) h v) x.is) in
+    (ap need_of e ∙ asks_none p now old.host.own new.store.list a asks, omega (arith, last.behind, ap length (asks_own p now old.host.own new.store.list a asks)))
+
 entry_fresh : (b : List ℕ) (e : Entry) (old new : State) → IsEntry b e old new → IsFresh e
-entry_fresh b e old new p = λ h.
-    let f = front_seen e.used new.host.own (serves_front _ _ e.used e.drawn _ _ p.serves) h in (
-      omega (arith, kept_need e.need (need_of (request_at b)) e.used p.need h, serves_need (request_at b) e.now e.used e.drawn _ _ p.serves h),
-      omega (arith, f, p.seen, IsFrontOf-le old.host.own new.host.own p.grows),
-    )
+entry_fresh b e old new p = by e.used refl
+  where
+    needs : has_list e.used ≡ true → e.need ≡ need_of (request_at b)
+    needs h = kept_need e.need (need_of (request_at b)) e.used e.steps e.drawn p.need h
+
+    by : (u : Used) → e.used ≡ u → IsFreshUse e.need e.seen u
+    by (used.Ring front made_at) is =
+        let h : has_list e.used ≡ true = ap has_list is in
+        let f = front_seen e.used new.host.own (serves_front _ _ e.used e.drawn _ _ p.serves) h in (
+          omega (arith, ap front_of is, needs h, serves_need (request_at b) e.now e.used e.drawn _ _ p.serves h),
+          omega (arith, ap front_of is, f, p.seen, IsFrontOf-le old.host.own new.host.own p.grows),
+        )
+    by (used.Placed place) is =
+        let s = serves_placed (request_at b) e.now e.used e.drawn _ _ place p.serves is in
+        (needs (ap has_list is) ∙ s.0, omega (arith, p.seen, s.1))
+    by (used.Refused why) is = tt
+    by (used.BadRequest place) is = tt
+    by used.NoMemory is = tt
 
 pub chain_fresh : (n : ℕ) (bodies : List (List ℕ)) (es : List Entry) (old new : State) → n ≤ length old.host.own → Chain bodies es old new → AreFresh n es
 chain_fresh n [] [] old new le p = tt
@@ -336,9 +383,27 @@ no_other n u steps old new e f =
 same_counts : (u w : Used) (steps : List Step) (old new : DrawState) → u ≡ w → CountsRefusal w steps old new → CountsRefusal u steps old new
 same_counts u w steps old new e c = subst (λ (x : Used). CountsRefusal x steps old new) (sym e) c
 
+same_why : (a b : Refusal) → no_ring a ≡ no_ring b → a ≡ b
+same_why a b e = cc
+
+same_place_why : (a b : Refusal) → no_place a ≡ no_place b → a ≡ b
+same_place_why a b e = cc
+
+ring_given : {ring : RingOf} → come_to ring ≡ no_ring flight.Memory → ⊥
+ring_given e = cc
+
 module _ (c : Call) (p : Request) (r : Result RingOf Refusal) (own : List Element) (d : Course) (u : Used) (bytes : List ℕ) (old between new : DrawState) where
   one_fault : CallPath c r own d → Draws (draws_failed d.steps) d.drawn old between → draws_failed d.steps ≡ 0 → Draws 1 [] between new → new.faults ≡ more 1 old.faults
   one_fault x draws none s = s.faults ∙ ap (more 1) (draws.faults ∙ ap (λ (n : ℕ). more n old.faults) none)
+
+  -- a call of the repository without a step is that of a request that found no memory
+  follows_noted : CallPath c r own d → Follows p r u bytes between new → d.unnoted ≤ no_memory u
+  follows_noted x (refused why e k v b s) = omega (arith, call_all_noted c r own d x (λ m. not_memory why k (same_why (refusal why) flight.Memory (sym e ∙ m))))
+  follows_noted x (answered_by ring e v n s) = omega (arith, call_all_noted c r own d x (λ m. ring_given (sym e ∙ m)))
+  follows_noted x (undrawn ring e k v b s) = omega (arith, call_all_noted c r own d x (λ m. ring_given (sym e ∙ m)))
+  follows_noted x (stopped v b s) = omega (arith, call_noted c r own d x, ap no_memory v)
+  follows_noted x (lost ring e v n s) = omega (arith, call_noted c r own d x, ap no_memory v)
+  follows_noted x (unheard ring e k v b s) = omega (arith, call_noted c r own d x, ap no_memory v)
 
   follows_counts : CallPath c r own d → Draws (draws_failed d.steps) d.drawn old between → Follows p r u bytes between new → CountsRefusal u d.steps old new
   follows_counts x draws (refused why e k v b s) =
@@ -360,6 +425,19 @@ module _ (c : Call) (p : Request) (r : Result RingOf Refusal) (own : List Elemen
   follows_counts x draws (unheard ring e k v b s) =
       same_counts u used.NoMemory d.steps old new v (record { refused = tt; draws = (1, omega arith, s.faults ∙ ap (more 1) draws.faults ∙ more-more (draws_failed d.steps) 1 old.faults) })
 
+placed_noted : (a : Asked) (r : Result ℕ Refusal) (own : List Element) (d : Course) (u : Used) → PlacePath a r own d → IsByPlace r u → d.unnoted ≤ no_memory u
+placed_noted a r own d (used.Ring front made_at) x v = absurd v
+placed_noted a r own d (used.Placed place) x v = omega (arith, place_all_noted a r own d x (λ m. found (sym v ∙ m)))
+  where
+    at_place : ℕ → Result ℕ Refusal
+    at_place n = Ok n
+
+    found : at_place place ≡ no_place flight.Memory → ⊥
+    found e = cc
+placed_noted a r own d (used.Refused why) x v = omega (arith, place_all_noted a r own d x (λ m. not_memory why v.1 (same_place_why (refusal why) flight.Memory (sym v.0 ∙ m))))
+placed_noted a r own d (used.BadRequest place) x v = absurd v
+placed_noted a r own d used.NoMemory x v = place_noted a r own d x
+
 placed_counts : (a : Asked) (r : Result ℕ Refusal) (own : List Element) (d : Course) (u : Used) (old new : DrawState) → PlacePath a r own d → Draws (draws_failed d.steps) d.drawn old new → IsByPlace r u → CountsRefusal u d.steps old new
 placed_counts a r own d (used.Ring front made_at) old new x draws v = absurd v
 placed_counts a r own d (used.Placed place) old new x draws v = record { refused = tt; draws = no_other _ (used.Placed place) d.steps old new refl draws.faults }
@@ -371,6 +449,9 @@ placed_counts a r own d used.NoMemory old new x draws v = record { refused = tt;
 
 -- what one request counted
 record CountsOf (u : Used) (steps : List Step) (old new : Books) : Type 0 where
+  acts : latest new.host.acts ≡ latest (old.host.acts ++ acts (length old.host.looked.list) steps)
+  looked : length new.host.looked.list ≡ node.front_of (length old.host.looked.list) steps
+  calls : (k : ℕ) × (k ≤ no_memory u) × (new.store.calls ≡ more ((tally steps).calls + k) old.store.calls)
   faults : new.store.faults ≡ more (tally steps).faults old.store.faults
   shorts : new.store.shorts ≡ more (tally steps).shorts old.store.shorts
   fulls : new.store.fulls ≡ more (tally steps).fulls old.store.fulls
@@ -381,6 +462,9 @@ module _ (q : Result Request BadRequest) (now : ℕ) (u : Used) (drawn : List �
   idle_counts : old.steps ≡ [] → new ≡ old → CountsRefusal u [] old.draws old.draws → CountsOf u new.steps old new
   idle_counts none same own =
       subst (λ (b : Books). CountsOf u b.steps old b) (sym same) (subst (λ (s : List Step). CountsOf u s old old) (sym none) (record {
+        acts = ap latest (sym (append-nil old.host.acts));
+        looked = refl;
+        calls = (0, omega arith, refl);
         faults = refl;
         shorts = refl;
         fulls = refl;
@@ -388,10 +472,13 @@ module _ (q : Result Request BadRequest) (now : ℕ) (u : Used) (drawn : List �
         own = own;
       }))
 
-  does_counts : {P : Course → Type 0} (mid : Books) → mid.store ≡ new.store → mid.steps ≡ new.steps → old.steps ≡ [] → (x : Does P old mid) → CountsRefusal u x.course.steps old.draws new.draws → CountsOf u new.steps old new
-  does_counts mid store kept none x own =
+  does_counts : {P : Course → Type 0} (mid : Books) → mid.store ≡ new.store → mid.steps ≡ new.steps → mid.host ≡ new.host → old.steps ≡ [] → (x : Does P old mid) → x.course.unnoted ≤ no_memory u → CountsRefusal u x.course.steps old.draws new.draws → CountsOf u new.steps old new
+  does_counts mid store kept host none x noted own =
       let steps : x.course.steps ≡ new.steps = sym (x.recorded.steps ∙ ap (λ (s : List Step). s ++ x.course.steps) none) ∙ kept in
       subst (λ (s : List Step). CountsOf u s old new) steps (record {
+        acts = ap (λ (s : HostState). latest s.acts) (sym host) ∙ x.recorded.acts;
+        looked = ap (λ (s : HostState). length s.looked.list) (sym host) ∙ x.recorded.front;
+        calls = (x.course.unnoted, noted, ap (λ (s : Store). s.calls) (sym store) ∙ x.recorded.store.calls);
         faults = ap (λ (s : Store). s.faults) (sym store) ∙ x.recorded.store.faults;
         shorts = ap (λ (s : Store). s.shorts) (sym store) ∙ x.recorded.store.shorts;
         fulls = ap (λ (s : Store). s.fulls) (sym store) ∙ x.recorded.store.fulls;
@@ -404,19 +491,22 @@ module _ (q : Result Request BadRequest) (now : ℕ) (u : Used) (drawn : List �
   serves_counts none (unstarted v d same) = idle_counts none same (same_counts u used.NoMemory [] old.draws old.draws v (record { refused = tt; draws = (0, omega arith, refl) }))
   serves_counts none (misdated p e bad v d same) = idle_counts none same (same_counts u (used.Refused errors.BadDates) [] old.draws old.draws v (record { refused = tt; draws = (0, omega arith, refl) }))
   serves_counts none (by_ring p e needs good r between x bytes d f) =
-      does_counts (record new { draws = between }) refl refl none x (follows_counts _ p r new.host.own x.course u bytes old.draws between new.draws x.is x.recorded.draws f)
-  serves_counts none (by_place p e good a asks r x d v) = does_counts new refl refl none x (placed_counts a r new.host.own x.course u old.draws new.draws x.is x.recorded.draws v)
+      does_counts (record new { draws = between }) refl refl refl none x (follows_noted _ p r new.host.own x.course u bytes old.draws between new.draws x.is f) (follows_counts _ p r new.host.own x.course u bytes old.draws between new.draws x.is x.recorded.draws f)
+  serves_counts none (by_place p e good a asks r x d v) = does_counts new refl refl refl none x (placed_noted a r new.host.own x.course u x.is v) (placed_counts a r new.host.own x.course u old.draws new.draws x.is x.recorded.draws v)
 
 then_more : (j k a b c : ℕ) → b ≡ more j a → c ≡ more k b → c ≡ more (j + k) a
 then_more j k a b c p q = q ∙ ap (more k) p ∙ more-more j k a
 
-both_draws : (i j l m a b c : ℕ) → (x : ℕ) × (x ≤ l) × (b ≡ more (i + x) a) → (y : ℕ) × (y ≤ m) × (c ≡ more (j + y) b) → (z : ℕ) × (z ≤ l + m) × (c ≡ more (i + j + z) a)
-both_draws i j l m a b c p q =
+-- numbers that are known but for a few more, added up
+both_some : (i j l m a b c : ℕ) → (x : ℕ) × (x ≤ l) × (b ≡ more (i + x) a) → (y : ℕ) × (y ≤ m) × (c ≡ more (j + y) b) → (z : ℕ) × (z ≤ l + m) × (c ≡ more (i + j + z) a)
+both_some i j l m a b c p q =
     let sum : (i + p.0) + (j + q.0) ≡ i + j + (p.0 + q.0) = omega arith in
     (p.0 + q.0, omega (arith, p.1, q.1), then_more (i + p.0) (j + q.0) a b c p.2 q.2 ∙ ap (λ (t : ℕ). more t a) sum)
 
 pub chain_counts : (bodies : List (List ℕ)) (es : List Entry) (old new : State) → Chain bodies es old new → AreCountedBy es old new
 chain_counts [] [] old new p = record {
+  acts = ap (λ (s : State). latest s.host.acts) p ∙ ap latest (sym (append-nil old.host.acts));
+  calls = (0, omega arith, ap (λ (s : State). s.store.calls) p);
   faults = ap (λ (s : State). s.store.faults) p;
   shorts = ap (λ (s : State). s.store.shorts) p;
   fulls = ap (λ (s : State). s.store.fulls) p;
@@ -430,10 +520,12 @@ chain_counts (b ∷ bodies) (e ∷ es) old new p =
     let one = serves_counts (request_at b) e.now e.used e.drawn (before old) (after e.steps p.0) refl p.1.serves in
     let rest = chain_counts bodies es p.0 new p.2 in
     record {
+      acts = acts-both (length old.host.looked.list) (length p.0.host.looked.list) old.host.acts p.0.host.acts new.host.acts e.steps (all_steps es) one.looked one.acts rest.acts;
+      calls = both_some _ _ _ _ _ _ _ one.calls rest.calls;
       faults = then_more _ _ _ _ _ one.faults rest.faults;
       shorts = then_more _ _ _ _ _ one.shorts rest.shorts;
       fulls = then_more _ _ _ _ _ one.fulls rest.fulls;
       mine = rest.mine ∙ ap (λ (m : List ℕ). m ++ flat_map (λ (x : Entry). (tally x.steps).places) es) one.mine ∙ append_assoc old.store.mine (tally e.steps).places (flat_map (λ (x : Entry). (tally x.steps).places) es);
-      draws = both_draws _ _ _ _ _ _ _ one.own.draws rest.draws;
+      draws = both_some _ _ _ _ _ _ _ one.own.draws rest.draws;
       refused = (one.own.refused, rest.refused);
     }

@@ -1,5 +1,6 @@
 pub mod Paths
 pub mod Answers
+pub mod Sums
 pub mod Taking
 pub mod Drawing
 pub mod Turns

@@ -35,6 +35,8 @@ pub record IsPlacedLast (a : Asked) (place : ℕ) (own : List Element) (d : Cour
   pub front : List Element
   pub last : own ≡ front ++ a.element d.drawn ∷ []
   pub count : place + 1 ≡ length own
+  -- behind all that was seen before
+  pub behind : length a.own ≤ place
 
 one_less : (n m : ℕ) → 1 ≤ n → n - 1 ≡ m → m + 1 ≡ n
 one_less n m some e = omega arith
@@ -48,6 +50,7 @@ placed_at a (Placed b fs) place own d is e o s =
       front = a.own ++ g.0;
       last = o ∙ g.1 ∙ sym (append_assoc a.own g.0 (a.element b ∷ [])) ∙ ap (λ (bytes : List ℕ). (a.own ++ g.0) ++ a.element bytes ∷ []) (sym s);
       count = one_less (length fs) place (grown-some a.own fs (a.element b) g) n ∙ ap length (sym o);
+      behind = omega (arith, n, ap length g.1, length-append a.own (g.0 ++ a.element b ∷ []), length-append g.0 (a.element b ∷ []));
     }
 placed_at a Undrawn place own d is e o s = cc
 placed_at a (Unplaced b) place own d is e o s = cc

@@ -1,21 +1,25 @@
 -- Answers by a ring, from what the calls of the protectors say.
-use Rattle.std.proofs.Common.{◌≡◌, ◌↔◌, ℕ, ◌<◌, ◌≤◌, ◌⊎◌, ⊎_elim, Bor, Bool, true, false, if◌then◌else◌, nat_lt, List, [], ◌∷◌, ◌++◌, length, Option, Some, None, Result, Ok, Err, IsErr, refl, sym, ap, subst, ◌∙◌, inl, inr}
+use Rattle.std.proofs.Common.{◌≡◌, ◌↔◌, ℕ, ◌<◌, ◌≤◌, ◌⊎◌, ⊎_elim, Bor, Bool, true, false, if◌then◌else◌, nat_lt, List, [], ◌∷◌, ◌++◌, length, Option, Some, None, Result, Ok, Err, IsErr, refl, sym, ap, subst, ◌∙◌, inl, inr, arith}
 use Rattle.std.proofs.lemmas.Bool.{le-ltb, lt-ltb}
 use Rattle.std.proofs.lemmas.Bool.Decides.{leb_tells}
 use Rattle.dp_base.specs.Draws.{DrawState, Draws}
+use Rattle.dp_base.specs.declared.alg.Alg.{Alg}
 use Rattle.dp_base.specs.declared.want.Memory.{Memory}
 use Rattle.dp_base.proofs.Draws.{Draws-none}
+use Rattle.key_elements.specs.declared.element.KeyRecord.{KeyRecord}
 use Rattle.key_ring.specs.Ring.{RingOf, default_key}
 use Rattle.dp_protector.specs.declared.refused.ProtectRefused.{ProtectRefused}
 use Rattle.dp_protector.specs.declared.refused.ProtectRefused.TheVariants as protecting
 use Rattle.dp_protector.specs.declared.refused.UnprotectRefused.{UnprotectRefused}
 use Rattle.dp_protector.specs.declared.refused.UnprotectRefused.TheVariants as opening
-use Rattle.dp_protector.specs.Protect.{Drew, IsEarly, Sealed, draw_len, draw_len_under, sealed_under, sealing, within}
+use Rattle.dp_protector.specs.Protect.{Drew, IsEarly, Sealed, draw_len, draw_len_for, draw_len_under, sealed_under, sealing, within}
 use Rattle.dp_protector.specs.declared.refused.TextRefused.{TextRefused}
 use Rattle.dp_protector.specs.declared.refused.TextRefused.TheVariants as texts
 use Rattle.dp_protector.specs.declared.refused.TimedOpenRefused.{TimedOpenRefused}
 use Rattle.dp_protector.specs.declared.refused.TimedOpenRefused.TheVariants as timed
 use Rattle.dp_protector.specs.Opening.{Opening, opened}
+use Rattle.dp_protector.specs.Algorithms.{alg_of}
+use Rattle.dp_protector.proofs.Defaults.{default_key-alg}
 use Rattle.dp_protector.specs.Text.{as_text, opened_payload, opened_text, payload_of}
 use Rattle.dp_protector.specs.Timed.{TimedOpening, opened_timed}
 use Rattle.dp_wire.specs.Chains.{used_chain}
@@ -23,7 +27,7 @@ use Rattle.dp_wire.specs.declared.reply.Reply.TheVariants as replies
 use Rattle.dp_wire.specs.Replies.{reply_body, flags}
 use Rattle.dp_wire.specs.Request.{Request, field}
 use Rattle.dp_session.specs.declared.response.Response.{Response}
-use Rattle.dp_session.specs.Needs.{drawn_within, seals, sealed_len}
+use Rattle.dp_session.specs.Needs.{drawn_within, sealed_len}
 use Rattle.dp_session.specs.Replies.{answer_by, protected_reply, unopened_reply, text_reply, timed_reply}
 use Rattle.dp_session.specs.Responding as by
 use Rattle.dp_session.specs.Responding.{IsByRing, IsUnmade, IsUnopened, Responds}
@@ -57,11 +61,23 @@ draw_len-none : (ring : RingOf) → default_key ring.list ring.made_at ≡ None 
 unfolding draw_len
 draw_len-none ring e = ap draw_len_under e
 
+-- a default key has an algorithm, and draws
+draw_len-some : (ring : RingOf) → (default_key ring.list ring.made_at ≡ None → ⊥) → 1 ≤ draw_len ring
+unfolding draw_len
+draw_len-some ring has = by_key (default_key ring.list ring.made_at) refl
+  where
+    by_alg : (key : KeyRecord) (alg : Option Alg) → default_key ring.list ring.made_at ≡ Some key → alg_of key.alg ≡ alg → 1 ≤ draw_len_for alg
+    by_alg key None is a = absurd (default_key-alg ring.list ring.made_at key is a)
+    by_alg key (Some alg) is a = omega arith
+
+    by_key : (o : Option KeyRecord) → default_key ring.list ring.made_at ≡ o → 1 ≤ draw_len_under o
+    by_key None e = absurd (has e)
+    by_key (Some key) e = by_alg key (alg_of key.alg) e refl
+
 -- the request asks for a payload of a text that may be so long, of which this is made of the bytes drawn
 pub record AsksForPayload (app : List ℕ) (now : ℕ) (p : Request) (ring : RingOf) (most : ℕ) (text : List ℕ) (inner : List ℕ → Result (List ℕ) ProtectRefused) : Type 0 where
   pub replies_are : (d : List ℕ) → answer_by app now p ring d ≡ protected_reply (length ring.list) (within most text (inner d))
   pub len_is : sealed_len p ring ≡ drawn_within most text ring
-  pub seal : seals p ≡ true
   pub keyless : default_key ring.list ring.made_at ≡ None → (d : List ℕ) → inner d ≡ Err protecting.NoDefaultKey
 
 -- what is answered to such a request
@@ -100,27 +116,43 @@ module _ {app : List ℕ} {now : ℕ} {p : Request} {ring : RingOf} {most : ℕ}
       no_answer (Ok a) none = absurd cc
       no_answer (Err w) none = tt
 
+  -- a text that isn't too long draws by a ring with a key
+  due_draw : length text ≤ most → (default_key ring.list ring.made_at ≡ None → ⊥) → 1 ≤ sealed_len p ring
+  due_draw short has = omega (arith, whole_len (le-ltb most (length text) short), draw_len-some ring has)
+
   -- what a protecting call says where it is refused
   pub unmade : (why : ProtectRefused) → ((len : ℕ) → why ≡ protecting.TooLong len → (most < length text) × (len ≡ length text)) → (why ≡ protecting.NoDefaultKey → (length text ≤ most) × (default_key ring.list ring.made_at ≡ None))
-      → (IsEarly (kept_from why) → new ≡ old) → (why ≡ protecting.DrawFault → Draws 1 [] old new) → (why ≡ protecting.Memory → (length text ≤ most) × ((new ≡ old) ⊎ Drew (draw_len ring) old new))
+      → (IsEarly (kept_from why) → new ≡ old) → (why ≡ protecting.DrawFault → (length text ≤ most) × (default_key ring.list ring.made_at ≡ None → ⊥) × Draws 1 [] old new) → (why ≡ protecting.Memory → (length text ≤ most) × ((new ≡ old) ⊎ Drew (draw_len ring) old new))
       → IsUnmade why ring r → Responds app now p ring r old new
   unmade (protecting.TooLong len) long key early fault memory told = let l = long len refl in too_long len l.0 l.1 (early tt) told
   unmade protecting.NoDefaultKey long key early fault memory told = let k = key refl in no_key k.0 k.1 (early tt) told
-  unmade protecting.DrawFault long key early fault memory told = by.undrawn asks.seal (fault refl) told
+  unmade protecting.DrawFault long key early fault memory told = let f = fault refl in by.undrawn (due_draw f.0 f.1) f.2 told
   unmade protecting.Memory long key early fault memory told = let m = memory refl in lost_draw m.0 m.1 told
 
   -- the same from the clauses of such a call, of whatever it gives
   pub unmade_by : {A : Type 0} (why : ProtectRefused) → ((len : ℕ) → (err_of {A = A} why ≡ err_of {A = A} (protecting.TooLong len)) ↔ ((most < length text) × (len ≡ length text)))
-      → (err_of {A = A} why ≡ err_of {A = A} protecting.NoDefaultKey → (length text ≤ most) × (default_key ring.list ring.made_at ≡ None)) → (IsEarly (err_of {A = A} why) → new ≡ old)
+      → (err_of {A = A} why ≡ err_of {A = A} protecting.NoDefaultKey → (length text ≤ most) × (default_key ring.list ring.made_at ≡ None)) → (default_key ring.list ring.made_at ≡ None → length text ≤ most → (err_of {A = A} why ≡ err_of {A = A} protecting.NoDefaultKey) ⊎ (err_of {A = A} why ≡ err_of {A = A} protecting.Memory)) → (IsEarly (err_of {A = A} why) → new ≡ old)
       → (err_of {A = A} why ≡ err_of {A = A} protecting.DrawFault → Draws 1 [] old new) → (err_of {A = A} why ≡ err_of {A = A} protecting.Memory → (new ≡ old) ⊎ Drew (draw_len ring) old new) → IsUnmade why ring r → Responds app now p ring r old new
-  unmade_by {A = A} why long key early fault memory told =
-      unmade why (λ len e. (long len).0 (ap (err_of {A = A}) e)) (λ e. key (ap (err_of {A = A}) e)) (early_of A (new ≡ old) why early) (λ e. fault (ap (err_of {A = A}) e)) (λ e. (short e, memory (ap (err_of {A = A}) e))) told
+  unmade_by {A = A} why long key keyless early fault memory told =
+      unmade why (λ len e. (long len).0 (ap (err_of {A = A}) e)) (λ e. key (ap (err_of {A = A}) e)) (early_of A (new ≡ old) why early) (λ e. (short (drawn e), keyed e, fault (ap (err_of {A = A}) e))) (λ e. (short (lost e), memory (ap (err_of {A = A}) e))) told
     where
-      short : why ≡ protecting.Memory → length text ≤ most
-      short e = ⊎_elim (λ le. le.1) (λ gt. absurd (let f : err_of {A = A} why ≡ err_of {A = A} (protecting.TooLong (length text)) = (long (length text)).1 (gt.1, refl) in other e f)) (leb_tells (length text) most)
-        where
-          other : why ≡ protecting.Memory → err_of {A = A} why ≡ err_of {A = A} (protecting.TooLong (length text)) → ⊥
-          other e f = cc
+      drawn : why ≡ protecting.DrawFault → err_of {A = A} why ≡ err_of {A = A} (protecting.TooLong (length text)) → ⊥
+      drawn e f = cc
+
+      lost : why ≡ protecting.Memory → err_of {A = A} why ≡ err_of {A = A} (protecting.TooLong (length text)) → ⊥
+      lost e f = cc
+
+      short : (err_of {A = A} why ≡ err_of {A = A} (protecting.TooLong (length text)) → ⊥) → length text ≤ most
+      short other = ⊎_elim (λ le. le.1) (λ gt. absurd (other ((long (length text)).1 (gt.1, refl)))) (leb_tells (length text) most)
+
+      no_key_told : why ≡ protecting.DrawFault → err_of {A = A} why ≡ err_of {A = A} protecting.NoDefaultKey → ⊥
+      no_key_told e f = cc
+
+      no_want_told : why ≡ protecting.DrawFault → err_of {A = A} why ≡ err_of {A = A} protecting.Memory → ⊥
+      no_want_told e f = cc
+
+      keyed : why ≡ protecting.DrawFault → default_key ring.list ring.made_at ≡ None → ⊥
+      keyed e none = ⊎_elim (no_key_told e) (no_want_told e) (keyless none (short (drawn e)))
 
 -- a request that draws nothing
 module _ (app : List ℕ) (now : ℕ) (p : Request) (ring : RingOf) (dry : sealed_len p ring ≡ 0) (r : Result Response Memory) (draws : DrawState) where

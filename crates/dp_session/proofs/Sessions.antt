@@ -27,7 +27,7 @@ use Rattle.dp_session.specs.declared.status.Status.TheVariants as status
 use Rattle.dp_session.specs.declared.trace.Entry.{Entry}
 use Rattle.dp_session.specs.declared.trace.Used.{Used}
 use Rattle.dp_session.specs.declared.trace.Used.TheVariants as used
-use Rattle.dp_session.specs.Frames.{frames, AreBodies, IsBadFrame}
+use Rattle.dp_session.specs.Frames.{frames, AreBodies, RefusesFrame}
 use Rattle.dp_session.specs.Replies.{reply_to}
 use Rattle.dp_session.specs.Serving.{State, IsEntry, Serves, unread, unstarted, misdated, by_ring, by_place, Follows, IsByPlace, refused, answered, undrawn, stopped, lost, unheard}
 use Rattle.dp_session.proofs.Paths.{own_by_ring, placed_last}
@@ -262,7 +262,7 @@ no_further app st bad old a b n whole same p ends =
       list = p.list;
     })
 
-bad_frame : (bad : Option BadWhy) (n m : ℕ) (left after : Option (List ℕ)) → n ≡ m → IfSome bad (λ why. IfSome left (λ bytes. IsBadFrame bytes why)) → EndsInput status.BadInput (bad_at bad n) m left after
+bad_frame : (bad : Option BadWhy) (n m : ℕ) (left after : Option (List ℕ)) → n ≡ m → IfSome bad (λ why. RefusesFrame why left after) → EndsInput status.BadInput (bad_at bad n) m left after
 bad_frame None n m left after e h = tt
 bad_frame (Some why) n m left after e h = (e, h)
 
@@ -324,6 +324,18 @@ ends-few app status.StoreFault bad a b e = absurd e
 ends-few app status.DrawFault bad a b e = absurd e
 ends-few app status.NoMemory bad a b e = omega (arith, ap length e.0.entries)
 ends-few app status.Spent bad a b e = absurd e
+
+-- only a session whose last reply wasn't written has an entry more
+pub ends-same : (app : List ℕ) (st : Status) (bad : Option BadWhy) (a b : Outside) → EndsAt app st bad a b → (st ≡ status.WriteFault → ⊥) → length b.entries ≡ length a.entries
+ends-same app status.Done bad a b e other = ap length e.0.entries
+ends-same app status.BadWords bad a b e other = absurd e
+ends-same app status.BadInput bad a b e other = ap length e.0.entries
+ends-same app status.ReadFault bad a b e other = ap length e.0.entries
+ends-same app status.WriteFault bad a b e other = absurd (other refl)
+ends-same app status.StoreFault bad a b e other = absurd e
+ends-same app status.DrawFault bad a b e other = absurd e
+ends-same app status.NoMemory bad a b e other = ap length e.0.entries
+ends-same app status.Spent bad a b e other = absurd e
 
 pub ends-spent : (app : List ℕ) (st : Status) (bad : Option BadWhy) (a b : Outside) → EndsAt app st bad a b → st ≡ status.Spent → ⊥
 ends-spent app st bad a b e is = subst (λ (s : Status). EndsAt app s bad a b) is e

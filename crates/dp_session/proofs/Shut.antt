@@ -26,7 +26,7 @@ use Rattle.dp_session.specs.declared.trace.Used.{Used}
 use Rattle.dp_session.specs.declared.trace.Used.TheVariants as used
 use Rattle.dp_session.specs.Needs.{need_of}
 use Rattle.dp_session.specs.Replies.{answer_by, opened_reply, refusal_reply, reply_to, ring_at, text_reply, timed_reply, unopened_reply}
-use Rattle.dp_session.specs.Fresh.{AreFresh, IsFresh}
+use Rattle.dp_session.specs.Fresh.{AreFresh, IsFresh, IsFreshUse}
 use Rattle.dp_session.specs.Session.{front_of, has_list}
 use Rattle.dp_session.specs.Shut.{AreShut, IsShut, IsUnopened, barred_id, known_to}
 
@@ -171,9 +171,19 @@ known-front n front list le =
     let few_too : m ≤ front = omega (arith, few) in
     take-take m front list few_too ∙ sym (take-take m n list few) ∙ take-length (take n list)
 
+-- a list that was used has as many elements as were needed, and as were seen
+fresh-front : (need seen : ℕ) (u : Used) → IsFreshUse need seen u → has_list u ≡ true → (need ≤ front_of u) × (seen ≤ front_of u)
+fresh-front need seen (used.Ring front made_at) f h = f
+fresh-front need seen (used.Placed place) f h = (omega (arith, f.0), omega (arith, f.1))
+fresh-front need seen (used.Refused why) f h = cc
+fresh-front need seen (used.BadRequest place) f h = cc
+fresh-front need seen used.NoMemory f h = cc
+
 module _ (app body : List ℕ) (e : Entry) (list : List Element) (fresh : IsFresh e) where
   extends : has_list e.used ≡ true → Extends (take (front_of e.used) list) (known_to e list)
-  extends h = known-front (max e.seen e.need) (front_of e.used) list (omega (arith, (fresh h).0, (fresh h).1))
+  extends h =
+      let f = fresh-front e.need e.seen e.used fresh h in
+      known-front (max e.seen e.need) (front_of e.used) list (omega (arith, f.0, f.1))
 
   by_list : (p : Request) (id : KeyId) → barred_id p ≡ Some id → (Extends (take (front_of e.used) list) (known_to e list) → (made_at : ℕ) → Shuts (ring_at (take (front_of e.used) list) made_at) id) → IsUnopened app p e list
   by_list p id named shut rest = listed (has_list e.used) refl

@@ -13,7 +13,7 @@ use Rattle.dp_session.specs.declared.end.BadWhy.TheVariants.{Element, TooMany, Z
 use Rattle.dp_session.specs.declared.session.TheConstants.{MAX_REQUESTS}
 use Rattle.dp_session.specs.declared.status.Status.{Status}
 use Rattle.dp_session.specs.declared.status.Status.TheVariants as status
-use Rattle.dp_session.specs.Frames.{frames, AreBodies, AreWhole, IsBadFrame, head_len, frame_len}
+use Rattle.dp_session.specs.Frames.{frames, AreBodies, AreWhole, IsBadFrame, RefusesFrame, head_len, frame_len}
 use Rattle.dp_session.specs.Session.{Outside, IsSession, EndsInput, IsSpentEnd}
 use Rattle.dp_session.proofs.Turns.{length-frame}
 use Rattle.dp_session.proofs.Sessions.{same_lengths}
@@ -60,7 +60,7 @@ left_of (Some rest) bytes taken p = (rest, refl, p)
 
 not_bad : (bad : Option BadPlace) (place : ℕ) (left after : Option (List ℕ)) (rest : List ℕ) → left ≡ Some rest → IsSome bad → EndsInput status.BadInput bad place left after → (b : BadPlace) × IsBadFrame rest b.why
 not_bad None place left after rest e some h = absurd cc
-not_bad (Some b) place left after rest e some h = (b, subst (λ (o : Option (List ℕ)). IfSome o (λ bytes. IsBadFrame bytes b.why)) e h.1)
+not_bad (Some b) place left after rest e some h = (b, (subst (λ (o : Option (List ℕ)). RefusesFrame b.why o after) e h.1).0)
 
 no_frames : (more : List (List ℕ)) → length more ≡ 0 → length (frames more) ≡ 0
 no_frames [] e = refl

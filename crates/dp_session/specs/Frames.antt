@@ -1,8 +1,9 @@
 -- The frames of a session's input, and where input is no further frame.
-use Rattle.std.specs.Prelude.{◌≡◌, ℕ, ◌+◌, ◌<◌, ◌≤◌, nat_lt, if◌then◌else◌, List, [], length, take, Option, Some, None, IfSome, Result, Ok, Err}
+use Rattle.std.specs.Prelude.{◌≡◌, ℕ, ◌+◌, ◌<◌, ◌≤◌, nat_lt, if◌then◌else◌, List, [], length, take, drop, Option, Some, None, IfSome, Result, Ok, Err}
 use Rattle.std.specs.List.{flat_map, AllByRecursion}
 use Rattle.std.specs.Int.{w32, from_be_bytes}
 use Rattle.std.specs.Io.KnownBytes.{Consumes}
+use Rattle.dp_base.specs.Transfer.{TakesFewer}
 use Rattle.dp_wire.specs.Frame.{frame, IsBodyLen}
 use Rattle.dp_wire.specs.declared.frame.TheConstants.{MAX_BODY}
 use Rattle.dp_wire.specs.declared.frame.FrameRefused.{FrameRefused}
@@ -61,6 +62,25 @@ IsBadFrame bytes (Cut have want) =
     (have ≡ length bytes) × (0 < have) × (have < want) × (want ≡ frame_len bytes)
     × (4 ≤ have → IsBodyLen (head_len bytes))
 
+-- what is left behind a bad frame: all but the four bytes of its length, or nothing where it is cut
+abbrev pub rest_behind : BadWhy → List ℕ → List ℕ
+rest_behind Zero bytes = drop 4 bytes
+rest_behind (TooLarge len) bytes = drop 4 bytes
+rest_behind _ bytes = []
+
+-- a bad frame stands next, of which no more was taken than tells so
+abbrev pub RefusesFrame : BadWhy → Option (List ℕ) → Option (List ℕ) → Type 0
+RefusesFrame why left after =
+    IfSome left (λ bytes. IsBadFrame bytes why × (after ≡ Some (rest_behind why bytes)))
+
+-- no byte, or some bytes of one frame, but not all
+abbrev pub IsPart : List ℕ → Type 0
+IsPart bytes = (length bytes < frame_len bytes) × (4 ≤ length bytes → IsBodyLen (head_len bytes))
+
+-- at most a part of the next frame was taken
+abbrev pub TakesPart : Option (List ℕ) → Option (List ℕ) → Type 0
+TakesPart left after = (taken : List ℕ) × IsPart taken × Consumes left after taken
+
 -- the bytes that are kept, where they are
 abbrev pub IsKept : Option (Vec ℕ Global) → List ℕ → Type 0
 IsKept None bytes = Unit {0}
@@ -70,18 +90,20 @@ IsKept (Some kept) bytes = kept.items ≡ bytes
 abbrev pub Reads : Body → List ℕ → Type 0
 Reads body bytes = (body.len ≡ length bytes) × IsKept body.kept bytes
 
--- what was read where a body of so many bytes is to stand: it, or too few bytes are left
+-- what was read where a body of so many bytes is to stand: it; or too few bytes are left, and all were
+-- taken; or a read failed, and fewer were taken
 abbrev pub ReadsBody : ℕ → Result Body Unread → Option (List ℕ) → Option (List ℕ) → Type 0
 ReadsBody len (Ok body) left after =
     (bytes : List ℕ) × (length bytes ≡ len) × Reads body bytes × Consumes left after bytes
 ReadsBody len (Err (unread.Bad why)) left after =
-    IfSome left (λ bytes. (length bytes < len) × (why ≡ Cut (4 + length bytes) (4 + len)))
-ReadsBody len (Err unread.Failed) left after = Unit {0}
+    IfSome left (λ bytes. (length bytes < len) × (why ≡ Cut (4 + length bytes) (4 + len)) × (after ≡ Some []))
+ReadsBody len (Err unread.Failed) left after = TakesFewer len left after
 
--- what was read where a frame is to stand: the input ends there; it; or it is none
+-- what was read where a frame is to stand: the input ends there; it; it is none; or a read failed
+-- before it was whole
 abbrev pub ReadsFrame : Result Frame Unread → Option (List ℕ) → Option (List ℕ) → Type 0
 ReadsFrame (Ok read.End) left after = IfSome left (λ bytes. (bytes ≡ []) × (after ≡ Some []))
 ReadsFrame (Ok (read.Whole body)) left after =
     (bytes : List ℕ) × IsBodyLen (length bytes) × Reads body bytes × Consumes left after (frame bytes)
-ReadsFrame (Err (unread.Bad why)) left after = IfSome left (λ bytes. IsBadFrame bytes why)
-ReadsFrame (Err unread.Failed) left after = Unit {0}
+ReadsFrame (Err (unread.Bad why)) left after = RefusesFrame why left after
+ReadsFrame (Err unread.Failed) left after = TakesPart left after

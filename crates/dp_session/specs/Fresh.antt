@@ -1,10 +1,11 @@
 -- What the entries of a session say of what its callers had seen, and of what was counted.
-use Rattle.std.specs.Prelude.{◌≡◌, ℕ, ◌+◌, ◌≤◌, max, true, List, [], ◌∷◌, ◌++◌}
+use Rattle.std.specs.Prelude.{◌≡◌, ℕ, ◌+◌, ◌≤◌, max, List, length, [], ◌∷◌, ◌++◌}
 use Rattle.std.specs.List.{AllByRecursion, flat_map}
 use Rattle.dp_base.specs.Counts.{more}
 use Rattle.ring_world.specs.declared.step.Step.{Step}
 use Rattle.ring_world.specs.Flight.{Refusal, StoreFault, DrawFault, Shorter, Behind, Forked, Full, BadDates, Memory}
-use Rattle.dp_node.specs.Books.{tally, draws_failed}
+use Rattle.dp_node.specs.Books.{acts, tally, draws_failed}
+use Rattle.dp_node.specs.HostState.{latest}
 use Rattle.dp_node.specs.declared.error.NodeError.{NodeError}
 use Rattle.dp_node.specs.declared.error.NodeError.TheVariants as errors
 use Rattle.dp_node.specs.Gather.{refusal}
@@ -12,11 +13,19 @@ use Rattle.dp_session.specs.declared.trace.Entry.{Entry}
 use Rattle.dp_session.specs.declared.trace.Used.{Used}
 use Rattle.dp_session.specs.declared.trace.Used.TheVariants as used
 use Rattle.dp_session.specs.Serving.{State}
-use Rattle.dp_session.specs.Session.{front_of, has_list}
+use Rattle.dp_session.specs.Session.{front_of}
 
--- a request that used a list used one of as many elements as it needed and as were seen before it
+-- a ring has as many elements as were needed, and as were seen before; what is placed needs none, and
+-- stands behind all that was seen
+abbrev pub IsFreshUse : ℕ → ℕ → Used → Type 0
+IsFreshUse need seen (used.Ring front made_at) = (need ≤ front) × (seen ≤ front)
+IsFreshUse need seen (used.Placed place) = (need ≡ 0) × (seen ≤ place)
+IsFreshUse need seen (used.Refused why) = Unit {0}
+IsFreshUse need seen (used.BadRequest place) = Unit {0}
+IsFreshUse need seen used.NoMemory = Unit {0}
+
 abbrev pub IsFresh : Entry → Type 0
-IsFresh e = has_list e.used ≡ true → (e.need ≤ front_of e.used) × (e.seen ≤ front_of e.used)
+IsFresh e = IsFreshUse e.need e.seen e.used
 
 -- and each later one had seen what was seen and used before it
 abbrev pub AreFresh : ℕ → List Entry → Type 0
@@ -46,7 +55,8 @@ AreCounted (Full count) steps = 1 ≤ (tally steps).fulls
 AreCounted BadDates steps = Unit {0}
 AreCounted Memory steps = Unit {0}
 
--- whether no memory was found: then a draw for a payload may have failed, and nobody was told
+-- whether no memory was found: then one call of the repository may have no step, and a draw for a
+-- payload may have failed, and nobody was told
 abbrev pub no_memory : Used → ℕ
 no_memory used.NoMemory = 1
 no_memory _ = 0
@@ -63,10 +73,18 @@ abbrev pub total : (Entry → ℕ) → List Entry → ℕ
 total f [] = 0
 total f (e ∷ es) = f e + total f es
 
--- the counts of repository and draw rose by what the steps of the entries say, that of the draw also for
--- the payloads, and once more at the most for each request that found no memory; the places are those
--- of their appends, and each refusal that has a count has it
+-- the steps of the entries, in order
+abbrev pub all_steps : List Entry → List Step
+all_steps es = flat_map (λ e. e.steps) es
+
+-- the last acts of the pass are those of the steps of the entries, behind those that were there; the
+-- counts of repository and draw rose by what these steps say, those of the repository's calls and of the
+-- draw's faults also by one at the most for each request that found no memory, and the latter for the
+-- payloads; the places are those of their appends, and each refusal that has a count has it
 pub record AreCountedBy (es : List Entry) (old new : State) : Type 0 where
+  pub acts : latest new.host.acts ≡ latest (old.host.acts ++ acts (length old.host.looked.list) (all_steps es))
+  pub calls : (k : ℕ) × (k ≤ total (λ e. no_memory e.used) es)
+      × (new.store.calls ≡ more (total (λ e. (tally e.steps).calls) es + k) old.store.calls)
   pub faults : new.store.faults ≡ more (total (λ e. (tally e.steps).faults) es) old.store.faults
   pub shorts : new.store.shorts ≡ more (total (λ e. (tally e.steps).shorts) es) old.store.shorts
   pub fulls : new.store.fulls ≡ more (total (λ e. (tally e.steps).fulls) es) old.store.fulls

@@ -66,13 +66,6 @@ IsShort (UnprotectText need allow chain text) = length text < 2 ^ 32
 IsShort (UnprotectTimed need allow chain payload) = length payload < 2 ^ 32
 IsShort _ = Unit {0}
 
--- whether a request makes a payload
-abbrev pub seals : Request → Bool
-seals (Protect need chain plain) = true
-seals (ProtectText need chain text) = true
-seals (ProtectTimed need chain expiry plain) = true
-seals _ = false
-
 -- how many bytes are drawn by the ring for a payload of these bytes: none where they are too long
 abbrev pub drawn_within : ℕ → List ℕ → RingOf → ℕ
 drawn_within most bytes ring = if nat_lt most (length bytes) then 0 else draw_len ring

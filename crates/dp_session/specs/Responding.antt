@@ -1,5 +1,5 @@
 -- What a request is answered by, once its ring is there.
-use Rattle.std.specs.Prelude.{◌≡◌, ℕ, true, List, [], length, Some, None, Result, IsErr}
+use Rattle.std.specs.Prelude.{◌≡◌, ℕ, ◌≤◌, List, [], length, Some, None, Result, IsErr}
 use Rattle.dp_base.specs.Draws.{DrawState, Draws}
 use Rattle.dp_base.specs.declared.want.Memory.{Memory}
 use Rattle.key_ring.specs.Ring.{RingOf}
@@ -13,7 +13,7 @@ use Rattle.dp_wire.specs.Replies.{reply_body}
 use Rattle.dp_wire.specs.Request.{Request}
 use Rattle.dp_session.specs.declared.response.Response.{Response}
 use Rattle.dp_session.specs.declared.trace.Used.TheVariants as used
-use Rattle.dp_session.specs.Needs.{seals, sealed_len}
+use Rattle.dp_session.specs.Needs.{sealed_len}
 use Rattle.dp_session.specs.Replies.{answer_by, unopened_reply, refusal_reply}
 use Rattle.dp_session.specs.Serving.{IsAnswer}
 
@@ -21,11 +21,11 @@ use Rattle.dp_session.specs.Serving.{IsAnswer}
 abbrev pub IsByRing : RingOf → List ℕ → Result Response Memory → Type 0
 IsByRing ring body r = IsAnswer (used.Ring (length ring.list) ring.made_at) body (Some ring.list) r
 
--- a request was answered by the ring, with these bytes drawn for a payload; the draw for that failed;
+-- a request was answered by the ring, with these bytes drawn for a payload; the draw that was due failed;
 -- or no memory was found before it
 pub data Responds (app : List ℕ) (now : ℕ) (p : Request) (ring : RingOf) (r : Result Response Memory) (old new : DrawState) : Type 0 where
   answered : (bytes : List ℕ) → length bytes ≡ sealed_len p ring → Draws 0 bytes old new → IsByRing ring (answer_by app now p ring bytes) r → Responds app now p ring r old new
-  undrawn : seals p ≡ true → Draws 1 [] old new → IsAnswer (used.Refused errors.DrawFault) (refusal_reply errors.DrawFault) None r → Responds app now p ring r old new
+  undrawn : 1 ≤ sealed_len p ring → Draws 1 [] old new → IsAnswer (used.Refused errors.DrawFault) (refusal_reply errors.DrawFault) None r → Responds app now p ring r old new
   stopped : IsErr r → new ≡ old → Responds app now p ring r old new
 
 -- what is answered where no payload was made

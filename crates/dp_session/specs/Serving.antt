@@ -1,5 +1,5 @@
 -- What one request does: to the pass, to the repository and to the draw.
-use Rattle.std.specs.Prelude.{◌≡◌, ◌≢◌, ◌⊎◌, ℕ, min, true, false, List, [], ◌++◌, length, Option, Some, None, Result, Ok, Err}
+use Rattle.std.specs.Prelude.{◌≡◌, ◌≢◌, ◌⊎◌, ℕ, ◌≤◌, min, true, false, List, [], ◌++◌, length, Option, Some, None, Result, Ok, Err}
 use Rattle.dp_base.specs.declared.ticks.TheConstants.{LAST}
 use Rattle.dp_base.specs.Clocks.{ShowsMoment}
 use Rattle.dp_base.specs.Draws.{DrawState, Draws}
@@ -30,7 +30,7 @@ use Rattle.dp_session.specs.declared.response.Response.{Response}
 use Rattle.dp_session.specs.declared.trace.Entry.{Entry}
 use Rattle.dp_session.specs.declared.trace.Used.{Used}
 use Rattle.dp_session.specs.declared.trace.Used.TheVariants as used
-use Rattle.dp_session.specs.Needs.{need_of, needs_ring, missing_of, seals, sealed_len, HasBadDates}
+use Rattle.dp_session.specs.Needs.{need_of, needs_ring, missing_of, sealed_len, HasBadDates}
 use Rattle.dp_session.specs.Replies.{reply_to}
 
 -- when a request comes, and how many elements it asks for
@@ -49,15 +49,15 @@ Asks (RevokeBefore date reason) now own told a =
 Asks _ now own told a = ⊥
 
 -- what follows the path to a ring, where these bytes are drawn behind its steps: the path was refused;
--- the request is answered by its ring; the draw for its payload fails; no memory is found, before that
--- draw, behind it, or for the reply that it failed
+-- the request is answered by its ring; the draw fails that is due for its payload; no memory is found,
+-- before that draw, behind it, or for the reply that it failed
 pub data Follows (p : Request) (r : Result RingOf Refusal) (u : Used) (bytes : List ℕ) (old new : DrawState) : Type 0 where
   refused : (why : NodeError) → r ≡ Err (refusal why) → why ≢ errors.Memory → u ≡ used.Refused why → bytes ≡ [] → new ≡ old → Follows p r u bytes old new
   answered : (ring : RingOf) → r ≡ Ok ring → u ≡ used.Ring (length ring.list) ring.made_at → length bytes ≡ sealed_len p ring → Draws 0 bytes old new → Follows p r u bytes old new
-  undrawn : (ring : RingOf) → r ≡ Ok ring → seals p ≡ true → u ≡ used.Refused errors.DrawFault → bytes ≡ [] → Draws 1 [] old new → Follows p r u bytes old new
+  undrawn : (ring : RingOf) → r ≡ Ok ring → 1 ≤ sealed_len p ring → u ≡ used.Refused errors.DrawFault → bytes ≡ [] → Draws 1 [] old new → Follows p r u bytes old new
   stopped : u ≡ used.NoMemory → bytes ≡ [] → new ≡ old → Follows p r u bytes old new
   lost : (ring : RingOf) → r ≡ Ok ring → u ≡ used.NoMemory → length bytes ≡ sealed_len p ring → Draws 0 bytes old new → Follows p r u bytes old new
-  unheard : (ring : RingOf) → r ≡ Ok ring → seals p ≡ true → u ≡ used.NoMemory → bytes ≡ [] → Draws 1 [] old new → Follows p r u bytes old new
+  unheard : (ring : RingOf) → r ≡ Ok ring → 1 ≤ sealed_len p ring → u ≡ used.NoMemory → bytes ≡ [] → Draws 1 [] old new → Follows p r u bytes old new
 
 -- what is used where a path comes to a place, or is refused
 abbrev pub IsByPlace : Result ℕ Refusal → Used → Type 0
@@ -117,16 +117,17 @@ before s = books [] s.host s.store s.draws
 abbrev pub after : List Step → State → Books
 after steps s = books steps s.host s.store s.draws
 
--- the number that is kept of a request: 0 where it wasn't kept
-abbrev pub IsNeed : ℕ → ℕ → Used → Type 0
-IsNeed need asked u = (need ≡ asked) ⊎ ((need ≡ 0) × (u ≡ used.NoMemory))
+-- the number that is kept of a request: 0 where its body wasn't kept, and then nothing was done for it
+abbrev pub IsNeed : ℕ → ℕ → Used → List Step → List ℕ → Type 0
+IsNeed need asked u steps drawn =
+    (need ≡ asked) ⊎ ((need ≡ 0) × (u ≡ used.NoMemory) × (steps ≡ []) × (drawn ≡ []))
 
 -- an entry tells what the request of this body did: at the clock's next moment, or the last there is
 pub record IsEntry (body : List ℕ) (e : Entry) (old new : State) : Type 0 where
   pub moment : ℕ
   pub shown : ShowsMoment old.moments new.moments moment
   pub now : e.now ≡ min moment LAST
-  pub need : IsNeed e.need (need_of (request_at body)) e.used
+  pub need : IsNeed e.need (need_of (request_at body)) e.used e.steps e.drawn
   pub seen : e.seen ≡ length old.host.own
   pub serves : Serves (request_at body) e.now e.used e.drawn (before old) (after e.steps new)
   -- the draw gave these bytes, in calls of which some may have failed

@@ -2,10 +2,9 @@
 use Rattle.std.specs.Prelude.{◌≡◌, ℕ, Bool, true, false, ◌||◌, ◌+◌, ◌≤◌, max, List, [], ◌∷◌, ◌++◌, length, take, drop, Option, Some, None, IfSome, IsSome}
 use Rattle.key_elements.specs.declared.element.Element.{Element}
 use Rattle.key_elements.specs.Lists.{Extends}
-use Rattle.dp_base.specs.Transfer.{TakesAtMost, Writes, WritesFront}
+use Rattle.dp_base.specs.Transfer.{Writes, WritesFront}
 use Rattle.dp_wire.specs.Frame.{frame, IsBodyLen}
 use Rattle.dp_wire.specs.Reading.{request_at}
-use Rattle.dp_wire.specs.declared.frame.TheConstants.{MAX_BODY}
 use Rattle.dp_session.specs.declared.end.BadPlace.{BadPlace}
 use Rattle.dp_session.specs.declared.end.BadWhy.{BadWhy}
 use Rattle.dp_session.specs.declared.status.Status.{Status}
@@ -14,7 +13,7 @@ use Rattle.dp_session.specs.declared.trace.Entry.{Entry}
 use Rattle.dp_session.specs.declared.trace.Used.{Used}
 use Rattle.dp_session.specs.declared.trace.Used.TheVariants as used
 use Rattle.std.specs.Io.KnownBytes.{Consumes}
-use Rattle.dp_session.specs.Frames.{frames, AreBodies, IsBadFrame}
+use Rattle.dp_session.specs.Frames.{frames, AreBodies, RefusesFrame, TakesPart}
 use Rattle.dp_session.specs.Replies.{reply_to}
 use Rattle.dp_session.specs.Serving.{State, IsEntry}
 
@@ -102,9 +101,9 @@ EndsAt app status.Done bad old new =
     NoMore old new × IfSome old.input (λ bytes. (bytes ≡ []) × (new.input ≡ Some [])) × (bad ≡ None)
 EndsAt app status.BadWords bad old new = ⊥
 EndsAt app status.BadInput bad old new =
-    NoMore old new × IfSome bad (λ why. IfSome old.input (λ bytes. IsBadFrame bytes why)) × IsSome bad
+    NoMore old new × IfSome bad (λ why. RefusesFrame why old.input new.input) × IsSome bad
 EndsAt app status.ReadFault bad old new =
-    NoMore old new × TakesAtMost (4 + MAX_BODY) old.input new.input × (bad ≡ None)
+    NoMore old new × TakesPart old.input new.input × (bad ≡ None)
 EndsAt app status.WriteFault bad old new = (len : ℕ) × OneMore app WritesFront old new len × (bad ≡ None)
 EndsAt app status.StoreFault bad old new = ⊥
 EndsAt app status.DrawFault bad old new = ⊥
@@ -147,13 +146,14 @@ pub record SoFar (app : List ℕ) (old new : Outside) (place : ℕ) : Type 0 whe
   pub list : IsLongest new.entries new.list old.state.host.own new.state.host.own
   pub count : place ≡ length (frames bodies)
 
--- what is left of the input, and what was taken of that, at each end of a session
+-- what is left of the input, and what was taken of that, at each end of a session: a frame that was
+-- read whole was served
 abbrev pub EndsInput : Status → Option BadPlace → ℕ → Option (List ℕ) → Option (List ℕ) → Type 0
 EndsInput status.Done bad place left after = IfSome left (λ bytes. (bytes ≡ []) × (after ≡ Some []))
 EndsInput status.BadWords bad place left after = ⊥
 EndsInput status.BadInput bad place left after =
-    IfSome bad (λ b. (b.place ≡ place) × IfSome left (λ bytes. IsBadFrame bytes b.why))
-EndsInput status.ReadFault bad place left after = TakesAtMost (4 + MAX_BODY) left after
+    IfSome bad (λ b. (b.place ≡ place) × RefusesFrame b.why left after)
+EndsInput status.ReadFault bad place left after = TakesPart left after
 EndsInput status.WriteFault bad place left after = after ≡ left
 EndsInput status.StoreFault bad place left after = ⊥
 EndsInput status.DrawFault bad place left after = ⊥
@@ -166,7 +166,7 @@ abbrev pub bad_at : Option BadWhy → ℕ → Option BadPlace
 bad_at (Some why) place = Some (record { place = place; why = why })
 bad_at None place = None
 
--- how a session ends after its last request
+-- how a session ends after its last request: nothing was left, a read failed, or more was left
 abbrev pub IsSpentEnd : Status → Type 0
 IsSpentEnd status.Done = Unit {0}
 IsSpentEnd status.ReadFault = Unit {0}

@@ -52,7 +52,7 @@ halt_of unread.Failed = record { status = status.ReadFault; bad = None }
 -- the turn is that of the request of the body, at the moment
 pub record IsTurn (app body : List ℕ) (now : ℕ) (t : Turn) (old new : State) : Type 0 where
   pub moment : t.entry.now ≡ now
-  pub need : IsNeed t.entry.need (need_of (request_at body)) t.entry.used
+  pub need : IsNeed t.entry.need (need_of (request_at body)) t.entry.used t.entry.steps t.entry.drawn
   pub seen : t.entry.seen ≡ length old.host.own
   pub serves : Serves (request_at body) now t.entry.used t.entry.drawn (before old) (after t.entry.steps new)
   pub grows : Extends new.host.own old.host.own

@@ -3,8 +3,7 @@
 ghost use Rattle.std.specs.Prelude.{◌≡◌, ◌≢◌, ◌<◌, ◌≤◌, ◌+◌, ℕ, List, length, Err, IfOk, IfErr, OnOk, OnErr};
 ghost use Rattle.std.specs.Int.{w32, to_be_bytes, from_be_bytes};
 ghost use Rattle.dp_base.specs.Counts.{one_more};
-ghost use Rattle.dp_base.specs.Transfer.{TakesFront, TakesAtMost};
-ghost use Rattle.dp_wire.specs.declared.frame.TheConstants.{MAX_BODY};
+ghost use Rattle.dp_base.specs.Transfer.{TakesFront, TakesFewer};
 ghost use Rattle.dp_session.specs.declared.end.BadWhy.TheVariants.{Cut};
 ghost use Rattle.dp_session.specs.declared.reading.Unread.TheVariants as unread;
 ghost use Rattle.dp_wire.specs.Frame.{IsBodyLen};
@@ -55,7 +54,7 @@ fn pass_over<I: Source>(input: &mut I, count: usize) -> Result<usize, Failed>
     ensures bound { IfOk result (λ n. n ≤ count) }
     ensures value { IfOk result (λ n. (bytes : List ℕ) × (length bytes ≡ n)
         × TakesFront count (I.left input.old) (I.left input.new) bytes) }
-    ensures takes { TakesAtMost count (I.left input.old) (I.left input.new) }
+    ensures fewer { OnErr result (TakesFewer count (I.left input.old) (I.left input.new)) }
     ensures no_fault { OnOk result (I.faults input.new ≡ I.faults input.old) }
     ensures fault { OnErr result (I.faults input.new ≡ one_more (I.faults input.old)) }
 {
@@ -86,7 +85,6 @@ fn cut(count: usize, len: u32) -> Unread
 // A body of so many bytes; one that finds no memory is passed over.
 fn read_body<I: Source>(alloc: Global, input: &mut I, len: u32) -> Result<Body, Unread>
     ensures body { ReadsBody len result (I.left input.old) (I.left input.new) }
-    ensures takes { TakesAtMost len (I.left input.old) (I.left input.new) }
     ensures fault { result ≡ Err unread.Failed
         → I.faults input.new ≡ one_more (I.faults input.old) }
     ensures no_fault { result ≢ Err unread.Failed → I.faults input.new ≡ I.faults input.old }
@@ -134,7 +132,6 @@ fn body_len(head: &[u8; 4]) -> Result<u32, BadWhy>
 /// Reads one frame. The input ends lawfully only where none has begun.
 pub(crate) fn read_frame<I: Source>(alloc: Global, input: &mut I) -> Result<Frame, Unread>
     ensures frame { ReadsFrame result (I.left input.old) (I.left input.new) }
-    ensures takes { TakesAtMost (4 + MAX_BODY) (I.left input.old) (I.left input.new) }
     ensures fault { result ≡ Err unread.Failed
         → I.faults input.new ≡ one_more (I.faults input.old) }
     ensures no_fault { result ≢ Err unread.Failed → I.faults input.new ≡ I.faults input.old }

@@ -92,6 +92,10 @@ pub fn serve_session<W, H: Host<W>, R: Repo<W>, D: Draw, C: Clock, I: Source, O:
 
     ensures few { length result.trace.entries ≤ MAX_REQUESTS }
     ensures spent { result.status ≡ Spent → length result.trace.entries ≡ MAX_REQUESTS }
+
+    // After the last request that may be served no more than one byte is read.
+    ensures spent_end { length result.trace.entries ≡ MAX_REQUESTS → result.status ≢ WriteFault
+        → IsSpentEnd result.status }
     ensures bad { IsSome result.bad ↔ (result.status ≡ BadInput) }
 
     // Whole frames, not too many, are never refused.

@@ -15,7 +15,6 @@ asks : (app : List ℕ) (now need : ℕ) (wire chain : List (List ℕ)) (ring : 
 asks app now need wire chain ring text same = record {
   replies_are = λ d. ap (λ (ch : List (List ℕ)). protected_reply (length ring.list) (within MAX_TEXT text (given_as_text (sealing ring ch d text)))) (sym same);
   len_is = refl;
-  seal = refl;
   keyless = λ none d. ap given_as_text (sealing-none ring chain d text none);
 }
 
@@ -34,7 +33,7 @@ pub returns : goal.returns
 returns g c = λ now need.
     let how = asks c.args.app.now now need (chain_of c.args.chain.now.bytes.now) c.in_ok-chain.chain c.args.ring.now c.args.text.now (rw c.as_str.ensures.value at c.in_ok-chain.ensures.value) in
     let e = c.in-Err.ensures in
-    unmade_by how c.unmade.result (g.D.Draw.draws c.args.draw.now) (g.D.Draw.draws c.protect_text.new.draw) c.in-Err.why e.too_long (λ h. e.no_default_key.0 h) (λ h. ap g.D.Draw.draws (e.untouched h)) e.draw_fault
+    unmade_by how c.unmade.result (g.D.Draw.draws c.args.draw.now) (g.D.Draw.draws c.protect_text.new.draw) c.in-Err.why e.too_long (λ h. e.no_default_key.0 h) (λ none le. inl (e.no_default_key.1 (le, none))) (λ h. ap g.D.Draw.draws (e.untouched h)) e.draw_fault
     (λ h. ⊎_elim (λ s. inl (ap g.D.Draw.draws s)) (λ d. inr d) (e.memory h)) c.unmade.ensures
 
 pub by_ring-requires : goal.by_ring-requires

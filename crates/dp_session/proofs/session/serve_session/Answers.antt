@@ -3,7 +3,7 @@ use Rattle.dp_base.specs.Counts.{one_more}
 use Rattle.dp_session.proofs.Freshness.{chain_fresh, chain_counts}
 use Rattle.dp_session.proofs.Shut.{are_shut}
 use Rattle.dp_session.proofs.Whole.{whole_input, spent_bad}
-use Rattle.dp_session.proofs.Sessions.{so_far-none, so_far-more, session_ends, session_spent, frame-bound, entries-more, ends-few, ends-spent, ends-bad}
+use Rattle.dp_session.proofs.Sessions.{so_far-none, so_far-more, session_ends, session_spent, frame-bound, entries-more, ends-few, ends-same, ends-spent, ends-bad}
 use Rattle.dp_session.proofs.session.serve_session.Goals as goal
 
 pub requests-init : goal.requests-init
@@ -61,6 +61,13 @@ returns-clause-few g c = omega (arith, ap length c.of-2.ensures, c.requests.inva
 
 pub returns-clause-spent : goal.returns-clause-spent
 returns-clause-spent g c = λ e. omega (arith, ap length c.of-2.ensures, c.requests.invariant.count, c.requests.auto.counter-end, c.requests-test.false)
+
+pub returns-in-Err-clause-spent_end : goal.returns-in-Err-clause-spent_end
+returns-in-Err-clause-spent_end g c = λ most other.
+    absurd (omega (arith, most, ap length c.of.ensures, ends-same _ c.in-Err.halt.status c.in-Err.halt.bad _ _ c.in-Err.ensures.err other, c.requests.invariant.count, c.requests-test.true))
+
+pub returns-clause-spent_end : goal.returns-clause-spent_end
+returns-clause-spent_end g c = λ most other. c.end_of_spent.ensures.status
 
 pub returns-clause-free : goal.returns-clause-free
 returns-clause-free g c = c.requests.invariant.free

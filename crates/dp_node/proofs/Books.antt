@@ -133,7 +133,8 @@ latest-append xs ys =
 pub latest-latest : (xs : List Step) → latest (latest xs) ≡ latest xs
 latest-latest xs = ap latest (sym (append-nil (latest xs))) ∙ latest-append xs [] ∙ ap latest (append-nil xs)
 
-acts_joined : (f g : ℕ) (x y z : List Step) (s t : List Step) → g ≡ front_of f s → latest y ≡ latest (x ++ acts f s) → latest z ≡ latest (y ++ acts g t) → latest z ≡ latest (x ++ acts f (s ++ t))
+-- acts after acts
+pub acts_joined : (f g : ℕ) (x y z : List Step) (s t : List Step) → g ≡ front_of f s → latest y ≡ latest (x ++ acts f s) → latest z ≡ latest (y ++ acts g t) → latest z ≡ latest (x ++ acts f (s ++ t))
 acts_joined f g x y z s t e p q =
     q ∙ sym (latest-append y (acts g t)) ∙ ap (λ r. latest (r ++ acts g t)) p ∙ latest-append (x ++ acts f s) (acts g t)
     ∙ ap latest (append_assoc x (acts f s) (acts g t) ∙ ap (λ r. x ++ r) (ap (λ n. acts f s ++ acts n t) e ∙ sym (acts-append f s t)))

@@ -197,7 +197,7 @@ way_free : (c : Call) (x : Way) → holds false (way_course c x).steps ≡ false
 way_free c (Comes p r x) = holds-append false (path_course c p).steps (settle_course c x).steps ∙ ap (λ b. holds b (settle_course c x).steps) (path_free c p) ∙ settle_free c x
 way_free c (Fails p) = path_free c p
 
-way_noted : (c : Call) (x : Way) → (way_course c x).unnoted ≡ 0
+pub way_noted : (c : Call) (x : Way) → (way_course c x).unnoted ≡ 0
 way_noted c (Comes p r x) = omega (arith, path_noted c p, settle_noted c x)
 way_noted c (Fails p) = path_noted c p
 

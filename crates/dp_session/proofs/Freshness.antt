@@ -27,7 +27,7 @@ use Rattle.dp_node.specs.Books as node
 use Rattle.dp_node.specs.Books.{Books, Does, acts, tally, draws_failed}
 use Rattle.dp_node.specs.HostState.{HostState, latest}
 use Rattle.dp_node.specs.Gather.{refusal}
-use Rattle.dp_node.proofs.Books.{IsFrontOf-le, draws_failed-append, tally_faults-append, tally_shorts-append, tally_fulls-append}
+use Rattle.dp_node.proofs.Books.{IsFrontOf-le, draws_failed-append, tally_faults-append, tally_shorts-append, tally_fulls-append, acts_joined}
 use Rattle.dp_wire.specs.declared.request.BadRequest.{BadRequest}
 use Rattle.dp_wire.specs.Reading.{request_at}
 use Rattle.dp_wire.specs.Request.{Request, Ring, Roll, Revoke, RevokeBefore, Protect, Unprotect, ProtectText, UnprotectText, ProtectTimed, UnprotectTimed}
@@ -40,7 +40,7 @@ use Rattle.dp_session.specs.Serving.{State, IsEntry, Serves, unread, unstarted, 
 use Rattle.dp_session.specs.Session.{Chain, front_of, has_list}
 use Rattle.dp_session.proofs.Paths.{placed_last}
 use Rattle.dp_session.proofs.Sessions.{HasFront, serves_front}
-use Rattle.dp_session.proofs.Sums.{acts-both, call_noted, call_all_noted, place_noted, place_all_noted}
+use Rattle.dp_session.proofs.Sums.{call_noted, call_all_noted, place_noted, place_all_noted}
 
 enough_need : (need : ℕ) (own : List Element) (x : Result RingOf Refusal) (r : RingOf) → answered need x ≡ Ok r → need ≤ length r.list
 enough_need need own (Ok y) r e = within (nat_le need (length y.list)) refl e
@@ -520,7 +520,7 @@ chain_counts (b ∷ bodies) (e ∷ es) old new p =
     let one = serves_counts (request_at b) e.now e.used e.drawn (before old) (after e.steps p.0) refl p.1.serves in
     let rest = chain_counts bodies es p.0 new p.2 in
     record {
-      acts = acts-both (length old.host.looked.list) (length p.0.host.looked.list) old.host.acts p.0.host.acts new.host.acts e.steps (all_steps es) one.looked one.acts rest.acts;
+      acts = acts_joined (length old.host.looked.list) (length p.0.host.looked.list) old.host.acts p.0.host.acts new.host.acts e.steps (all_steps es) one.looked one.acts rest.acts;
       calls = both_some _ _ _ _ _ _ _ one.calls rest.calls;
       faults = then_more _ _ _ _ _ one.faults rest.faults;
       shorts = then_more _ _ _ _ _ one.shorts rest.shorts;

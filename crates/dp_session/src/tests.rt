@@ -81,30 +81,45 @@ fn no_auto() -> Result<Options, Fail> {
     Options::new(90, false, Alg::Cbc256(AesSize::A256)).map_err(|_| "options".into())
 }
 
+fn repo_of(alloc: Global, list: ElementList, fails: &[u64]) -> Result<OwnRepo<MemKeeper>, Fail> {
+    let keeper = MemKeeper::new(list, fails.to_vec(alloc)?);
+    Ok(OwnRepo::new(alloc, keeper))
+}
+
+fn zeros(alloc: Global, fails: &[u64]) -> Result<MemDraw, Fail> {
+    let bytes = Vec::from_elem(alloc, 0, 1_024)?;
+    Ok(MemDraw::new(bytes, fails.to_vec(alloc)?))
+}
+
+fn setup_of(alloc: Global, app: &str) -> Result<Setup, Fail> {
+    let options = no_auto()?;
+    let app = AppName::new(alloc, app)?;
+    Ok(Setup { options, app })
+}
+
+fn source_of(alloc: Global, input: Vec<u8>, outside: &Outside<'_>) -> Result<MemSource, Fail> {
+    let fails = outside.reads.to_vec(alloc)?;
+    Ok(MemSource::new(input, outside.piece.max(1), fails))
+}
+
+fn sink_of(alloc: Global, outside: &Outside<'_>) -> Result<MemSink, Fail> {
+    let fails = outside.writes.to_vec(alloc)?;
+    Ok(MemSink::new(alloc, outside.piece.max(1), fails))
+}
+
 // How a session over the list ends, and what it wrote.
 fn session(
     alloc: Global,
     input: Vec<u8>,
     outside: &Outside<'_>,
 ) -> Result<(SessionEnd, Vec<u8>), Fail> {
-    let keeper = MemKeeper::new(
-        revocations(alloc, outside.list)?,
-        outside.keeps.to_vec(alloc)?,
-    );
-    let mut repo = OwnRepo::new(alloc, keeper);
-    let mut draw = MemDraw::new(
-        Vec::from_elem(alloc, 0, 1_024)?,
-        outside.draws.to_vec(alloc)?,
-    );
+    let mut source = source_of(alloc, input, outside)?;
+    let mut sink = sink_of(alloc, outside)?;
     let mut clock = MemClock::new([DAY_0].to_vec(alloc)?);
-    let mut solo = Solo::open(alloc, &mut repo, &mut draw, DAY_0, no_auto()?)?;
-    let piece = outside.piece.max(1);
-    let mut source = MemSource::new(input, piece, outside.reads.to_vec(alloc)?);
-    let mut sink = MemSink::new(alloc, piece, outside.writes.to_vec(alloc)?);
-    let setup = Setup {
-        options: no_auto()?,
-        app: AppName::new(alloc, outside.app)?,
-    };
+    let setup = setup_of(alloc, outside.app)?;
+    let mut draw = zeros(alloc, outside.draws)?;
+    let mut repo = repo_of(alloc, revocations(alloc, outside.list)?, outside.keeps)?;
+    let mut solo = Solo::open(alloc, &mut repo, &mut draw, DAY_0, setup.options)?;
     let headers = HeaderTable::new(alloc);
     let end = serve_session(
         &mut (),
@@ -119,6 +134,41 @@ fn session(
         &mut sink,
     );
     Ok((end, sink.into_bytes()))
+}
+
+// How a session ends, and whether it wrote what was wanted.
+fn told(
+    alloc: Global,
+    input: Vec<u8>,
+    wanted: &[u8],
+    outside: &Outside<'_>,
+) -> Result<(Status, Option<BadPlace>, bool), Fail> {
+    let (end, written) = session(alloc, input, outside)?;
+    Ok((end.status, end.bad, written.as_slice() == wanted))
+}
+
+// The bytes of two hexadecimal texts.
+fn both(alloc: Global, first: &str, second: &str) -> Result<Vec<u8>, Fail> {
+    let mut bytes = bytes_of(alloc, first)?;
+    bytes.extend_from_slice(bytes_of(alloc, second)?.as_slice())?;
+    Ok(bytes)
+}
+
+// The same of texts: two in, and one wanted.
+fn told_of(
+    alloc: Global,
+    first: &str,
+    second: &str,
+    wanted: &str,
+    outside: &Outside<'_>,
+) -> Result<(Status, Option<BadPlace>, bool), Fail> {
+    let wanted = bytes_of(alloc, wanted)?;
+    told(
+        alloc,
+        both(alloc, first, second)?,
+        wanted.as_slice(),
+        outside,
+    )
 }
 
 // docs/FORMATS.md, "Frames and requests" and "Replies", by draws of zeros at day 0.
@@ -153,12 +203,12 @@ fn replies(rt: HostRuntime) -> Result<(), Fail> {
     ];
     for (request, reply) in table {
         for piece in [1, 4096] {
-            let alloc = rt.alloc();
             let outside = Outside { piece, ..WELL };
-            let (end, written) = session(alloc, bytes_of(alloc, request)?, &outside)?;
-            assert_eq!(rt; (end.status, end.bad), (Status::Done, None), "{request}");
-            let wanted = bytes_of(alloc, reply)?;
-            assert_eq!(rt; written.as_slice(), wanted.as_slice(), "{request}");
+            assert_eq!(rt;
+                told_of(rt.alloc(), request, "", reply, &outside)?,
+                (Status::Done, None, true),
+                "{request}"
+            );
         }
     }
     Ok(())
@@ -174,19 +224,23 @@ fn bad_frames(rt: HostRuntime) -> Result<(), Fail> {
         ("00000009 01", BadWhy::Cut { have: 5, want: 13 }),
     ];
     for (rest, why) in table {
-        let alloc = rt.alloc();
-        let mut input = bytes_of(alloc, ROLL)?;
-        input.extend_from_slice(bytes_of(alloc, rest)?.as_slice())?;
-        let (end, written) = session(alloc, input, &WELL)?;
         let bad = Some(BadPlace { place: 22, why });
-        assert_eq!(rt; (end.status, end.bad), (Status::BadInput, bad), "{rest}");
         assert_eq!(rt;
-            written.as_slice(),
-            bytes_of(alloc, ROLLED)?.as_slice(),
+            told_of(rt.alloc(), ROLL, rest, ROLLED, &WELL)?,
+            (Status::BadInput, bad, true),
             "{rest}"
         );
     }
     Ok(())
+}
+
+// Whether the entry is that of a key that found a full repository.
+fn is_full(entry: &Entry) -> bool {
+    matches!(
+        &entry.used,
+        Used::Refused(NodeError::Full { count: 16_384 })
+    ) && (entry.now, entry.need, entry.seen) == (DAY_0, 0, 16_384)
+        && entry.drawn.as_slice() == [0; 80].as_slice()
 }
 
 // A full repository has no place; the entry says so, and what was drawn.
@@ -198,54 +252,44 @@ fn full(rt: HostRuntime) -> Result<(), Fail> {
         ..WELL
     };
     let (end, written) = session(alloc, bytes_of(alloc, ROLL)?, &outside)?;
-    let wanted = bytes_of(alloc, "00000009 08 0000000000004000")?;
+    let wanted = [0, 0, 0, 9, 8, 0, 0, 0, 0, 0, 0, 64, 0];
     assert_eq!(rt; written.as_slice(), wanted.as_slice());
-    match end.trace.entries.as_slice() {
-        [entry] => {
-            assert!(rt;
-                matches!(
-                    &entry.used,
-                    Used::Refused(NodeError::Full { count: 16_384 })
-                )
-            );
-            let steps = [Step::Drawn { bytes: 80 }, Step::AppendFull];
-            assert_eq!(rt; entry.steps.as_slice(), steps.as_slice());
-            assert_eq!(rt; (entry.now, entry.need, entry.seen), (DAY_0, 0, 16_384));
-            assert_eq!(rt; entry.drawn.as_slice(), [0; 80].as_slice());
-        }
-        _ => return Err("one entry".into()),
-    }
+    let entry = end.trace.entries.as_slice().first().ok_or("an entry")?;
+    assert!(rt; is_full(entry));
+    let steps = [Step::Drawn { bytes: 80 }, Step::AppendFull];
+    assert_eq!(rt; entry.steps.as_slice(), steps.as_slice());
     Ok(())
 }
 
-// The trace of a key that is made and asked for: its list, and the front of each entry.
-#[test]
-fn traced(rt: HostRuntime) -> Result<(), Fail> {
-    let alloc = rt.alloc();
-    let mut input = bytes_of(alloc, ROLL)?;
-    input.extend_from_slice(bytes_of(alloc, "00000009 01 0000000000000001")?.as_slice())?;
-    let (end, written) = session(alloc, input, &WELL)?;
-    let SessionEnd { status, bad, trace } = end;
-    let Trace { list, entries } = trace;
-    assert_eq!(rt; (status, bad), (Status::Done, None));
-    assert_eq!(rt; list.len(), 1);
-    match entries.as_slice() {
+// Whether the entries are those of a key that is made, and of a ring of it that is asked for.
+fn are_of_a_key(entries: &[Entry]) -> bool {
+    match entries {
         [first, second] => {
-            assert!(rt; matches!(&first.used, Used::Placed { place: 0 }));
-            assert!(rt;
-                matches!(
+            matches!(&first.used, Used::Placed { place: 0 })
+                && matches!(
                     &second.used,
                     Used::Ring {
                         front: 1,
                         made_at: DAY_0
                     }
                 )
-            );
-            assert_eq!(rt; (second.need, second.seen), (1, 1));
+                && (second.need, second.seen) == (1, 1)
         }
-        _ => return Err("two entries".into()),
+        _ => false,
     }
-    let front = bytes_of(alloc, "00 0000000000000001 72696E672031")?;
+}
+
+// The trace of a key that is made and asked for: its list, and the front of each entry.
+#[test]
+fn traced(rt: HostRuntime) -> Result<(), Fail> {
+    let alloc = rt.alloc();
+    let input = both(alloc, ROLL, "00000009 01 0000000000000001")?;
+    let (end, written) = session(alloc, input, &WELL)?;
+    let SessionEnd { status, bad, trace } = end;
+    let Trace { list, entries } = trace;
+    assert_eq!(rt; (status, bad, list.len()), (Status::Done, None, 1));
+    assert!(rt; are_of_a_key(entries.as_slice()));
+    let front = b"\x00\x00\x00\x00\x00\x00\x00\x00\x01ring 1";
     assert_eq!(rt; written.get(33..48), Some(front.as_slice()));
     assert_eq!(rt; entries.into_inner().len(), 2);
     Ok(())
@@ -254,8 +298,6 @@ fn traced(rt: HostRuntime) -> Result<(), Fail> {
 // A call that fails is answered, or ends the session; the next request is served.
 #[test]
 fn faults(rt: HostRuntime) -> Result<(), Fail> {
-    let twice = "00000012 02 08DAA19EA6B30000 08DAE8578FE08000 03 \
-        00000012 02 08DAA19EA6B30000 08DAE8578FE08000 03";
     let fault = |keeps, draws, reads, writes| Outside {
         keeps,
         draws,
@@ -276,12 +318,9 @@ fn faults(rt: HostRuntime) -> Result<(), Fail> {
         (fault(none, none, none, &[1]), Status::WriteFault, ROLLED),
     ];
     for (outside, status, replies) in table {
-        let alloc = rt.alloc();
-        let (end, written) = session(alloc, bytes_of(alloc, twice)?, &outside)?;
-        assert_eq!(rt; (end.status, end.bad), (status, None), "{replies}");
         assert_eq!(rt;
-            written.as_slice(),
-            bytes_of(alloc, replies)?.as_slice(),
+            told_of(rt.alloc(), ROLL, ROLL, replies, &outside)?,
+            (status, None, true),
             "{replies}"
         );
     }
@@ -587,19 +626,29 @@ fn sides(alloc: Global, row: &Row<'_>) -> Result<(Vec<u8>, Vec<u8>), Fail> {
     Ok((input, output))
 }
 
+fn told_row(
+    alloc: Global,
+    row: &Row<'_>,
+    outside: &Outside<'_>,
+) -> Result<(Status, Option<BadPlace>, bool), Fail> {
+    let (input, wanted) = sides(alloc, row)?;
+    told(alloc, input, wanted.as_slice(), outside)
+}
+
 // docs/FORMATS.md, "Payload" and the parts behind it, "Requests" and "Replies".
 #[test]
 fn protecting(rt: HostRuntime) -> Result<(), Fail> {
-    let alloc = rt.alloc();
     for row in ROWS {
-        let (input, wanted) = sides(alloc, row)?;
         let outside = Outside {
             app: row.app,
             ..WELL
         };
-        let (end, written) = session(alloc, input, &outside)?;
-        assert_eq!(rt; end.status, Status::Done, "{}", row.name);
-        assert_eq!(rt; written.as_slice(), wanted.as_slice(), "{}", row.name);
+        assert_eq!(rt;
+            told_row(rt.alloc(), row, &outside)?,
+            (Status::Done, None, true),
+            "{}",
+            row.name
+        );
     }
     Ok(())
 }
@@ -618,9 +667,8 @@ struct Node {
 impl Node {
     fn open(alloc: Global, auto: bool) -> Result<Node, Fail> {
         let options = Options::new(90, auto, Alg::Cbc256(AesSize::A256)).map_err(|_| "options")?;
-        let keeper = MemKeeper::new(ElementList::empty(), Vec::new(alloc));
-        let mut repo = OwnRepo::new(alloc, keeper);
-        let mut draw = MemDraw::new(Vec::from_elem(alloc, 0, 1_024)?, Vec::new(alloc));
+        let mut repo = repo_of(alloc, ElementList::empty(), &[])?;
+        let mut draw = zeros(alloc, &[])?;
         let solo = Solo::open(alloc, &mut repo, &mut draw, DAY_0, options)?;
         Ok(Node {
             alloc,
@@ -691,22 +739,36 @@ const EMPTY_SEALED: &str = "09F0C9F000000000000000408000000000000000\
     0000000000000000000000000000000000000000000000000000000000000000D0AD7DFF99C4C6E4\
     90DB8E6FFC9C8AAE935588C75ABAA2083558145A94543DB3CCFED3D00F1054C861780AFE0B2CFB66";
 
-// Calls at a node, each with an answer and with a refusal.
+// Whether the answer is by the ring of one key, and holds these bytes.
+fn is_sealed(answered: &Answered<Vec<u8>>, sealed: &[u8]) -> bool {
+    (answered.front, answered.made_at) == (1, DAY_0) && answered.value.as_slice() == sealed
+}
+
+// Whether the answer is by the ring of one key, and tells no bytes under a key that protects.
+fn is_opened(answered: &Answered<Opened>) -> bool {
+    let opened = &answered.value;
+    (answered.front, answered.made_at) == (1, DAY_0)
+        && opened.plain.is_empty()
+        && !opened.revoked
+        && !opened.default_changed
+}
+
+// Calls at a node, each with an answer.
 #[test]
-fn node_calls(rt: HostRuntime) -> Result<(), Fail> {
-    let alloc = rt.alloc();
-    let mut node = Node::open(alloc, true)?;
-    let sealed = bytes_of(alloc, EMPTY_SEALED)?;
-    let answered = node.seal("a")??;
-    assert_eq!(rt; (answered.front, answered.made_at), (1, DAY_0));
-    assert_eq!(rt; answered.value.as_slice(), sealed.as_slice());
-    let opened = node.open_by(1, "a", sealed.as_slice())??;
-    assert_eq!(rt; (opened.front, opened.made_at), (1, DAY_0));
-    assert!(rt; opened.value.plain.is_empty());
-    assert_eq!(rt;
-        (opened.value.revoked, opened.value.default_changed),
-        (false, false)
-    );
+fn node_answers(rt: HostRuntime) -> Result<(), Fail> {
+    let mut node = Node::open(rt.alloc(), true)?;
+    let sealed = bytes_of(rt.alloc(), EMPTY_SEALED)?;
+    assert!(rt; is_sealed(&node.seal("a")??, sealed.as_slice()));
+    assert!(rt; is_opened(&node.open_by(1, "a", sealed.as_slice())??));
+    Ok(())
+}
+
+// Calls at a node, each with a refusal.
+#[test]
+fn node_refusals(rt: HostRuntime) -> Result<(), Fail> {
+    let mut node = Node::open(rt.alloc(), true)?;
+    let sealed = bytes_of(rt.alloc(), EMPTY_SEALED)?;
+    assert!(rt; node.seal("a")?.is_ok());
     assert!(rt;
         matches!(
             node.open_by(2, "a", sealed.as_slice())?,
@@ -722,10 +784,16 @@ fn node_calls(rt: HostRuntime) -> Result<(), Fail> {
             })
         )
     );
-    let mut keyless = Node::open(alloc, false)?;
+    Ok(())
+}
+
+// A node that makes no keys has none to protect with.
+#[test]
+fn node_without_a_key(rt: HostRuntime) -> Result<(), Fail> {
+    let mut node = Node::open(rt.alloc(), false)?;
     assert!(rt;
         matches!(
-            keyless.seal("a")?,
+            node.seal("a")?,
             Err(CallRefused::Protect {
                 front: 0,
                 why: ProtectRefused::NoDefaultKey
@@ -756,8 +824,7 @@ fn names(rt: HostRuntime) -> Result<(), Fail> {
 
 #[test]
 fn phrases(rt: HostRuntime) -> Result<(), Fail> {
-    let alloc = rt.alloc();
-    let calls = [
+    let table = [
         (
             CallRefused::Node(NodeError::Full { count: 5 }),
             "the repository is full with 5 elements",
@@ -777,18 +844,23 @@ fn phrases(rt: HostRuntime) -> Result<(), Fail> {
             "the body was altered, or was sealed otherwise",
         ),
     ];
-    for (refused, phrase) in calls {
-        assert_eq!(rt; format!(in alloc; "{refused}")?.as_str(), phrase);
+    for (refused, phrase) in table {
+        assert_eq!(rt; format!(in rt.alloc(); "{refused}")?.as_str(), phrase);
     }
-    let names = [
+    Ok(())
+}
+
+#[test]
+fn phrases_of_names(rt: HostRuntime) -> Result<(), Fail> {
+    let table = [
         (
             AppRefused::TooLong,
             "the name of an application is too long",
         ),
         (AppRefused::Memory, "no memory"),
     ];
-    for (refused, phrase) in names {
-        assert_eq!(rt; format!(in alloc; "{refused}")?.as_str(), phrase);
+    for (refused, phrase) in table {
+        assert_eq!(rt; format!(in rt.alloc(); "{refused}")?.as_str(), phrase);
     }
     Ok(())
 }

@@ -238,6 +238,12 @@ class Frames(unittest.TestCase):
                 self.assertRaises(jorveuk.Disconnected, ring.purpose("a").unprotect, b"")
                 self.assertEqual((ring.seen, peer.is_closed), (1, True))
 
+    def test_what_is_no_listing_ends_the_session(self):
+        for text in ("", "ring", LISTING.replace("active", "live"), LISTING.replace("created 6", "created 9" * 9)):
+            ring, peer = told_one(f"00 {TWO} {text.encode().hex()}")
+            self.assertRaises(jorveuk.Disconnected, ring.state)
+            self.assertEqual((ring.seen, peer.is_closed), (1, True))
+
     def test_phrases(self):
         told = {
             jorveuk.Full(16384): "the repository is full (count 16384)",

@@ -68,9 +68,14 @@ class RingState:
     renew: bool
 
 
-_HEAD = re.compile(r"ring (\d+) elements at (\d+)\nmass (none|\d+)\n")
 _KEY = re.compile(r"key (\S+) created (\d+) activates (\d+) expires (\d+) alg (\d+) (\w+)\n")
-_TAIL = re.compile(r"default (none|(\S+) by (preference|fallback))\nrenew (yes|no)\n")
+_LISTING = re.compile(
+    r"ring (?P<elements>\d+) elements at (?P<at>\d+)\n"
+    r"mass (?P<mass>none|\d+)\n"
+    rf"(?P<keys>(?:{_KEY.pattern})*)"
+    r"default (?:none|(?P<default>\S+) by (?P<by>preference|fallback))\n"
+    r"renew (?P<renew>yes|no)\n"
+)
 
 
 def _key_of_line(told: "re.Match[str]") -> Key:
@@ -87,18 +92,21 @@ def _key_of_line(told: "re.Match[str]") -> Key:
 
 def state_of(listing: str) -> RingState:
     """What a listing says."""
-    head, tail = _HEAD.match(listing), _TAIL.search(listing)
-    if head is None or tail is None:
+    told = _LISTING.fullmatch(listing)
+    if told is None:
         raise BadReply("the listing of a ring can't be read")
-    return RingState(
-        at=date_at(int(head[2])),
-        elements=int(head[1]),
-        revoked_before=None if head[3] == "none" else date_at(int(head[3])),
-        keys=tuple(map(_key_of_line, _KEY.finditer(listing))),
-        default=uuid.UUID(tail[2]) if tail[2] else None,
-        is_fallback=tail[3] == "fallback",
-        renew=tail[4] == "yes",
-    )
+    try:
+        return RingState(
+            at=date_at(int(told["at"])),
+            elements=int(told["elements"]),
+            revoked_before=None if told["mass"] == "none" else date_at(int(told["mass"])),
+            keys=tuple(map(_key_of_line, _KEY.finditer(told["keys"]))),
+            default=uuid.UUID(told["default"]) if told["default"] else None,
+            is_fallback=told["by"] == "fallback",
+            renew=told["renew"] == "yes",
+        )
+    except (ValueError, OverflowError):
+        raise BadReply("the listing of a ring can't be read") from None
 
 
 def key_of(payload: Union[str, Buffer]) -> uuid.UUID:

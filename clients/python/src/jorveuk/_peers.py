@@ -1,14 +1,13 @@
 """Connections to a key ring, and the two kinds of peer that they lead to."""
 
-import collections
 import logging
 import os
 import signal
 import socket
 import subprocess
-import threading
+import tempfile
 import time
-from typing import Deque, Optional, Sequence, Tuple
+from typing import Callable, Optional, Sequence, Tuple
 
 from ._errors import BadWords, Disconnected, KeyRingError, OtherProcess, Spent
 from ._wire import MAX_REPLY, MAX_REQUESTS, BadReply, be32
@@ -17,6 +16,8 @@ log = logging.getLogger("jorveuk")
 
 # How long a program may take to end behind its input.
 ENDING = 5.0
+# How often it is looked, while a reply is waited for, what a program says.
+LOOKING = 0.5
 
 
 class Connection:
@@ -26,8 +27,10 @@ class Connection:
     between a request and its reply, by whatever exception, leaves a reply behind that is not for the next.
     """
 
-    def __init__(self, stream: socket.socket) -> None:
+    def __init__(self, stream: socket.socket, waiting: Optional[Callable[[], None]] = None) -> None:
         self._stream = stream
+        # Called now and then while a reply is waited for.
+        self._waiting = waiting
         self._asked = 0
         self._is_whole = True
 
@@ -66,12 +69,18 @@ class Connection:
     def _receive(self, count: int, end: Optional[float]) -> bytes:
         data = bytearray()
         while len(data) < count:
-            if end is not None:
-                left = end - time.monotonic()
-                if left <= 0:
-                    raise socket.timeout("timed out")
-                self._stream.settimeout(left)
-            piece = self._stream.recv(min(count - len(data), 1 << 16))
+            left = None if end is None else end - time.monotonic()
+            if left is not None and left <= 0:
+                raise socket.timeout("timed out")
+            if self._waiting is not None:
+                left = LOOKING if left is None else min(left, LOOKING)
+            self._stream.settimeout(left)
+            try:
+                piece = self._stream.recv(min(count - len(data), 1 << 16))
+            except socket.timeout:
+                if self._waiting is not None:
+                    self._waiting()
+                continue
             if not piece:
                 raise EOFError("the peer ended it")
             data += piece
@@ -134,34 +143,6 @@ class Server(Peer):
         return "{}:{}".format(*self._address)
 
 
-class Messages(threading.Thread):
-    """Hands on the lines that a program writes to standard error, and keeps the last of them."""
-
-    def __init__(self, descriptor: int) -> None:
-        super().__init__(name="jorveuk-messages", daemon=True)
-        self._descriptor = descriptor
-        self._lines: Deque[str] = collections.deque(maxlen=8)
-
-    def run(self) -> None:
-        rest = b""
-        while True:
-            piece = os.read(self._descriptor, 1 << 12)
-            *lines, rest = (rest + piece).split(b"\n")
-            for line in lines + [rest] * (not piece):
-                self._hand_on(line.decode(errors="replace"))
-            if not piece:
-                os.close(self._descriptor)
-                return
-
-    def _hand_on(self, line: str) -> None:
-        if line:
-            self._lines.append(line)
-            log.warning("%s", line)
-
-    def text(self) -> str:
-        return "\n".join(self._lines)
-
-
 class Program(Peer):
     """A program that this process starts, and which has one session: its keys end with it."""
 
@@ -170,7 +151,9 @@ class Program(Peer):
         self._is_mine = True
         self._connection: Optional[Connection] = None
         self._process: Optional["subprocess.Popen[bytes]"] = None
-        self._messages: Optional[Messages] = None
+        # What it writes to standard error, and how many bytes of that were handed on.
+        self._said = tempfile.TemporaryFile()
+        self._handed_on = 0
         self._gone: Optional[str] = None
 
     def open(self, timeout: Optional[float]) -> Connection:
@@ -185,7 +168,6 @@ class Program(Peer):
 
     def _start(self) -> Connection:
         ours, theirs = socket.socketpair()
-        told, tells = os.pipe()
         try:
             # In a session of its own: what the terminal interrupts is this process, and the program ends
             # with its input, however this process ends.
@@ -193,19 +175,26 @@ class Program(Peer):
                 self._command,
                 stdin=theirs.fileno(),
                 stdout=theirs.fileno(),
-                stderr=tells,
+                stderr=self._said,
                 start_new_session=True,
             )
         except BaseException:
             ours.close()
-            os.close(told)
             raise
         finally:
             theirs.close()
-            os.close(tells)
-        self._messages = Messages(told)
-        self._messages.start()
-        return Connection(ours)
+        return Connection(ours, self._hand_on)
+
+    def _read(self, place: int) -> bytes:
+        """What it said from a place on. Where the program goes on writing isn't moved by this."""
+        return os.pread(self._said.fileno(), 1 << 20, place)
+
+    def _hand_on(self) -> None:
+        """Logs the lines that are new."""
+        lines, end, _ = self._read(self._handed_on).rpartition(b"\n")
+        self._handed_on += len(lines + end)
+        for line in lines.decode(errors="replace").splitlines():
+            log.warning("%s", line)
 
     def failure(self, why: Exception) -> KeyRingError:
         if isinstance(why, (EOFError, ConnectionError)):
@@ -229,15 +218,17 @@ class Program(Peer):
 
     def _end(self) -> Tuple[Optional[int], str]:
         """The status of the program behind its input's end, and what it said last."""
-        if self._process is None or self._messages is None:
+        if self._process is None:
             return None, ""
         try:
             status = self._process.wait(ENDING)
         except subprocess.TimeoutExpired:
             self.kill()
             status = self._process.wait()
-        self._messages.join(ENDING)
-        return status, self._messages.text()
+        self._hand_on()
+        size = os.fstat(self._said.fileno()).st_size
+        last = self._read(max(0, size - (1 << 12))).decode(errors="replace").splitlines()[-8:]
+        return status, "\n".join(last)
 
     def kill(self) -> None:
         """Ends the program and what it started."""

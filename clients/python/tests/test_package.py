@@ -61,7 +61,12 @@ class Readme(unittest.TestCase):
         wanted = re.search(r"It prints.*?```\n(.*?)```", readme(), re.S)[1]
         self.assertNotRegex(program, "base64|tick|0x|byte|struct|encode")
         program = program.replace('"./dp_server"', repr(support.PROGRAM))
-        told = run(sys.executable, "-c", program, env={**os.environ, "PYTHONPATH": SOURCES})
+        told = subprocess.run(
+            [sys.executable, "-c", program],
+            stdout=subprocess.PIPE,
+            universal_newlines=True,
+            env={**os.environ, "PYTHONPATH": SOURCES},
+        )
         dateless = [re.sub(r"\d{4}-\d\d-\d\d", "DATE", text) for text in (told.stdout, wanted)]
         self.assertEqual(dateless[0], dateless[1])
         self.assertEqual(told.returncode, 0)

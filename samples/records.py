@@ -2,7 +2,8 @@
 """Makes a list of records from a readable text, and the text from the list.
 
     samples/records.py encode < list.txt > list.records
-    samples/records.py decode < list.records > list.txt
+    samples/records.py decode [--dates] < list.records > list.txt
+    samples/records.py moment MOMENT..
 
 The text has one record a line, its words with blanks between them. What follows a # outside of
 quotes is a comment, and lines without a word are skipped. The forms of record are
@@ -12,14 +13,19 @@ quotes is a comment, and lines without a word are skipped. The forms of record a
     revoke-before D reason "TEXT"
 
 ID          a key's id in hexadecimal with hyphens, as 0c819c80-6619-4019-9536-53f8aaffee57
-C, A, X     its creation, activation and expiration: ticks of 100 ns since 0001-01-01 UTC in decimal
-            digits, at most 3155378975999999999. A day has 864000000000 ticks
+C, A, X     its creation, activation and expiration, which are moments
 N           the code of its algorithm, 0 to 255. 1 to 9 can be used
 M           the 64 bytes of its key material in 128 hexadecimal digits, or the word zeros
-D           the date of a revocation, in such ticks. revoke-before revokes each key that was made
-            before it
+D           the date of a revocation, a moment. revoke-before revokes each key that was made before it
 TEXT        why, of at most 1024 bytes in UTF-8, on one line: \" is a quote, \\ a backslash, and
             \n, \r and \t are a line's end, its carriage return and a tab
+
+A moment is a date in UTC, as 2026-11-30T12:00:00Z, with up to 7 digits behind a point where it isn't
+a whole second; or ticks of 100 ns since 0001-01-01 UTC in decimal digits, at most 3155378975999999999,
+of which a day has 864000000000. decode writes ticks, and dates where --dates is given. The word moment
+prints each moment in the other form, a line each:
+
+    ./dp_server show "$(samples/records.py moment 2026-11-30T12:00:00Z)" < list.records
 
 A list has at most 16384 records. A text or a list that is none is refused by one line on standard
 error and the exit status 1, and nothing is written.
@@ -28,6 +34,7 @@ error and the exit status 1, and nothing is written.
 import re
 import sys
 import uuid
+from datetime import datetime, timedelta
 
 MAX_TICKS = 3155378975999999999
 MAX_RECORDS = 16384
@@ -87,6 +94,31 @@ def number_of(name, text, most):
     if not re.fullmatch("0|[1-9][0-9]{0,19}", text) or int(text) > most:
         raise Refused(f"{name} is {text}, and not a decimal number of at most {most}")
     return int(text)
+
+
+SECOND = 10000000
+YEAR_1 = datetime(1, 1, 1)
+
+
+def ticks_of(name, text):
+    """The ticks of a moment, a date or ticks."""
+    told = re.fullmatch(r"(\d{4}-\d\d-\d\dT\d\d:\d\d:\d\d)(?:\.(\d{1,7}))?Z", text, re.ASCII)
+    if not told:
+        if re.match(r"\d{4}-", text):
+            raise Refused(f"{name} is {text}, and a date is written as 2026-11-30T12:00:00Z")
+        return number_of(name, text, MAX_TICKS)
+    try:
+        since = datetime.strptime(told[1], "%Y-%m-%dT%H:%M:%S") - YEAR_1
+    except ValueError:
+        raise Refused(f"{name} is {text}, which is no date")
+    return since // timedelta(seconds=1) * SECOND + int((told[2] or "").ljust(7, "0"))
+
+
+def date_of(ticks):
+    """The date that a moment of ticks is."""
+    when = YEAR_1 + timedelta(seconds=ticks // SECOND)
+    part = f".{ticks % SECOND:07}".rstrip("0") if ticks % SECOND else ""
+    return f"{when.isoformat()}{part}Z"
 
 
 def id_of(text):
@@ -155,7 +187,7 @@ class Key:
             material = "00" * 64
         if not re.fullmatch("[0-9a-fA-F]{128}", material):
             raise Refused("the material is neither 128 hexadecimal digits nor zeros")
-        dates = [number_of(words[at], words[at + 1], MAX_TICKS) for at in (2, 4, 6)]
+        dates = [ticks_of(words[at], words[at + 1]) for at in (2, 4, 6)]
         alg = number_of("alg", words[9], 255)
         return cls(key_id, *dates, alg, bytes.fromhex(material))
 
@@ -165,11 +197,11 @@ class Key:
         dates = [reader.take_date() for _ in range(3)]
         return cls(key_id, *dates, reader.take_number(1), reader.take(64))
 
-    def as_text(self):
+    def as_text(self, shown=str):
         material = self.material.hex() if any(self.material) else "zeros"
         return (
-            f"key {self.key_id} created {self.creation} activates {self.activation}"
-            f" expires {self.expiration} alg {self.alg} material {material}"
+            f"key {self.key_id} created {shown(self.creation)} activates {shown(self.activation)}"
+            f" expires {shown(self.expiration)} alg {self.alg} material {material}"
         )
 
     def as_bytes(self):
@@ -193,7 +225,7 @@ class Revocation:
     def of_words(cls, words):
         if len(words) != 6 or words[2::2] != ["at", "reason"]:
             raise Refused("a revocation is 'revoke ID at D reason \"TEXT\"'")
-        date = number_of("at", words[3], MAX_TICKS)
+        date = ticks_of("at", words[3])
         return cls(id_of(words[1]), date, reason_of(words[5]))
 
     @classmethod
@@ -201,8 +233,8 @@ class Revocation:
         key_id = uuid.UUID(bytes_le=reader.take(16))
         return cls(key_id, reader.take_date(), reader.take_reason())
 
-    def as_text(self):
-        return f"revoke {self.key_id} at {self.date} reason {quoted(self.reason)}"
+    def as_text(self, shown=str):
+        return f"revoke {self.key_id} at {shown(self.date)} reason {quoted(self.reason)}"
 
     def as_bytes(self):
         date = self.date.to_bytes(8, "big")
@@ -223,14 +255,14 @@ class MassRevocation:
     def of_words(cls, words):
         if len(words) != 4 or words[2] != "reason":
             raise Refused("a mass revocation is 'revoke-before D reason \"TEXT\"'")
-        return cls(number_of("revoke-before", words[1], MAX_TICKS), reason_of(words[3]))
+        return cls(ticks_of("revoke-before", words[1]), reason_of(words[3]))
 
     @classmethod
     def of_bytes(cls, reader):
         return cls(reader.take_date(), reader.take_reason())
 
-    def as_text(self):
-        return f"revoke-before {self.date} reason {quoted(self.reason)}"
+    def as_text(self, shown=str):
+        return f"revoke-before {shown(self.date)} reason {quoted(self.reason)}"
 
     def as_bytes(self):
         return bytes([self.first]) + self.date.to_bytes(8, "big") + reason_bytes(self.reason)
@@ -301,17 +333,52 @@ def of_list(data):
     return records
 
 
+# What the lines of other texts begin with.
+REQUESTS = "ring|roll|revoke|revoke-before|(un)?protect(-text|-timed)?"
+
+
+def encoded(data):
+    """The list of a text in bytes."""
+    try:
+        text = data.decode("utf-8")
+    except UnicodeDecodeError:
+        raise Refused("this is no text. Is it a list of records? Then decode reads it")
+    try:
+        return b"".join(record.as_bytes() for record in of_text(text))
+    except Refused as why:
+        if re.search(f"^({REQUESTS}) need ", text, re.M) or re.search("^(ring|roll) ", text, re.M):
+            raise Refused(f"{why}. Is it a text of requests? Then samples/frames.py reads it")
+        raise
+
+
+def decoded(data, shown):
+    """The text of a list, its moments as shown."""
+    try:
+        return "".join(f"{record.as_text(shown)}\n" for record in of_list(data)).encode("utf-8")
+    except Refused as why:
+        if re.match(rb"\s*(#|key |revoke|ring |mass )", data):
+            raise Refused(f"{why}. This is a text: encode makes a list of one")
+        if data[:2] == b"\0\0":
+            raise Refused(f"{why}. Are these frames? Then samples/frames.py reads them")
+        raise
+
+
 def main(words):
     given, taken = sys.stdin.buffer.read, sys.stdout.buffer.write
     try:
-        if words == ["encode"]:
-            text = given().decode("utf-8")
-            taken(b"".join(record.as_bytes() for record in of_text(text)))
-        elif words == ["decode"]:
-            taken("".join(f"{record.as_text()}\n" for record in of_list(given())).encode())
+        if words == ["--help"]:
+            print(__doc__.strip())
+        elif words == ["encode"]:
+            taken(encoded(given()))
+        elif words in (["decode"], ["decode", "--dates"]):
+            taken(decoded(given(), date_of if words[1:] else str))
+        elif words[:1] == ["moment"] and words[1:]:
+            for word in words[1:]:
+                ticks = ticks_of("the moment", word)
+                print(date_of(ticks) if word.isdigit() else ticks)
         else:
-            raise Refused("give the word encode or the word decode")
-    except (Refused, UnicodeDecodeError) as why:
+            raise Refused("give the word encode, decode or moment, or --help")
+    except Refused as why:
         print(f"records.py: {why}", file=sys.stderr)
         return 1
     return 0

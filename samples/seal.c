@@ -24,7 +24,8 @@ int main(void)
 {
     static const char text[] = "attack at dawn, by the north gate";
     static const char purpose[] = "samples/seal.c";
-    uint8_t material[64], modifier[16], iv[16], body[160], opened[160];
+    uint8_t material[DP_MATERIAL_BYTES], modifier[DP_MODIFIER_BYTES], iv[DP_IV_BYTES(CODE)];
+    uint8_t body[DP_BODY_ROOM(CODE, sizeof text - 1)], opened[sizeof body];
     size_t body_len = 0, opened_len = 0;
 
     if (!draw(material, sizeof material) || !draw(modifier, sizeof modifier) || !draw(iv, sizeof iv)) {

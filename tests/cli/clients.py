@@ -4,9 +4,12 @@ tells what went wrong, a line each."""
 import os
 import re
 import select
+import shutil
+import signal
 import subprocess
 import sys
 import tempfile
+import time
 import uuid
 
 from cases import TOP, small_id
@@ -242,6 +245,179 @@ def sample_session(program, name):
     return faults + ([] if text == SAMPLES[name] else [f"what is printed is {text!r}"])
 
 
+TYPO = """\
+ring nead 0
+revoke made reason ""
+roll activation now expiration now+90
+roll activation 2026-11-30T12:00:00Z expiration 2026-11-30T12:00:00.0000001Z alg 3
+rol
+ring need 1
+"""
+TYPO_SAID = """\
+> roll activation 2026-11-30T12:00:00Z expiration 2026-11-30T12:00:00.0000001Z alg 3
+roll: OK front 1 id I
+> ring need 1
+ring: OK front 1
+  ring 1 elements at T
+  mass none
+  key I created T activates T expires T alg 3 expired
+  default I by fallback
+  renew yes
+"""
+TYPO_TOLD = """\
+session.py: line 1: need is missing; the form is ring need NEED
+session.py: line 2: made stands for the key that was rolled last, and none is known here
+session.py: line 3: alg is missing; the form is roll activation ACTIVATION expiration EXPIRATION alg ALG
+session.py: line 5: rol begins no request
+"""
+
+
+def copied(program, folder):
+    """A copy of the samples, below a program, so that session.py finds this one."""
+    shutil.copytree(os.path.join(TOP, "samples"), os.path.join(folder, "samples"))
+    if program:
+        os.symlink(program, os.path.join(folder, "dp_server"))
+    return [sys.executable, os.path.join(folder, "samples", "session.py")]
+
+
+def typos(program):
+    """Lines that are no requests are told, and the session goes on."""
+    with tempfile.TemporaryDirectory() as folder:
+        told = subprocess.run(
+            [*copied(program, folder), "--no-auto"],
+            input=TYPO,
+            stdout=subprocess.PIPE,
+            stderr=subprocess.PIPE,
+            universal_newlines=True,
+        )
+    said = re.sub("[0-9a-f]{8}(-[0-9a-f]{4}){3}-[0-9a-f]{12}", "I", told.stdout)
+    said = re.sub(r"\b[0-9]{18}\b", "T", said)
+    wanted = (1, TYPO_SAID, TYPO_TOLD)
+    return [] if (told.returncode, said, told.stderr) == wanted else [f"it gives {told}"]
+
+
+def help_without_program(_):
+    """--help of the scripts, where there is no program and none can be built."""
+    faults = []
+    with tempfile.TemporaryDirectory() as folder:
+        copied(None, folder)
+        for name in ("session.py", "frames.py", "records.py"):
+            words = [sys.executable, os.path.join(folder, "samples", name), "--help"]
+            told = subprocess.run(words, stdout=subprocess.PIPE, stderr=subprocess.PIPE, stdin=subprocess.DEVNULL)
+            if told.returncode != 0 or told.stderr or f"samples/{name}".encode() not in told.stdout:
+                faults.append(f"{name} gives {told}")
+    return faults
+
+
+# A program that doesn't end with its input, as one that is being built.
+DEAF = """\
+#!/bin/sh
+sleep 600 &
+echo "$$ $!" > "$0.pids"
+wait
+"""
+
+
+def is_gone(process):
+    end = time.monotonic() + SECONDS
+    while time.monotonic() < end:
+        try:
+            with open(f"/proc/{process}/stat") as it:
+                if it.read().rpartition(")")[2].split()[0] == "Z":
+                    return True
+        except OSError:
+            return True
+        time.sleep(0.05)
+    return False
+
+
+def ended_from_outside(_):
+    """What session.py started ends when session.py is told to end."""
+    faults = []
+    for number in (signal.SIGTERM, signal.SIGINT, signal.SIGHUP):
+        with tempfile.TemporaryDirectory() as folder:
+            words = copied(None, folder)
+            program = os.path.join(folder, "dp_server")
+            with open(program, "w") as it:
+                it.write(DEAF)
+            os.chmod(program, 0o755)
+            silent = {"stdout": subprocess.DEVNULL, "stderr": subprocess.DEVNULL}
+            script = subprocess.Popen(words, stdin=subprocess.PIPE, **silent)
+            with script:
+                script.stdin.write(b"ring need 0\n")
+                script.stdin.flush()
+                end = time.monotonic() + SECONDS
+                pids = []
+                while len(pids) < 2 and time.monotonic() < end:
+                    time.sleep(0.05)
+                    if os.path.exists(f"{program}.pids"):
+                        with open(f"{program}.pids") as it:
+                            pids = it.read().split()
+                script.send_signal(number)
+                script.wait(SECONDS)
+            if script.returncode != 128 + number or len(pids) < 2 or not all(map(is_gone, pids)):
+                faults.append(f"after {number} it ends with {script.returncode}, and {pids} go on")
+    return faults
+
+
+def record_script(given, *words):
+    """What samples/records.py gives."""
+    words = [sys.executable, os.path.join(TOP, "samples", "records.py"), *words]
+    told = subprocess.run(words, input=given, stdout=subprocess.PIPE, stderr=subprocess.PIPE)
+    return told.returncode, told.stdout, told.stderr.decode()
+
+
+DATED = """\
+key 00000000-0000-4000-8000-00000000000a created 0001-01-01T00:00:00Z activates 2022-09-28T22:13:20Z \
+expires 9999-12-31T23:59:59.9999999Z alg 3 material zeros
+revoke 00000000-0000-4000-8000-00000000000a at 2022-09-28T22:13:20.05Z reason ""
+revoke-before 2026-11-30T12:00:00Z reason "leak"
+"""
+TICKS = """\
+key 00000000-0000-4000-8000-00000000000a created 0 activates 638000000000000000 \
+expires 3155378975999999999 alg 3 material zeros
+revoke 00000000-0000-4000-8000-00000000000a at 638000000000500000 reason ""
+revoke-before 639316368000000000 reason "leak"
+"""
+
+
+def dated_records(_):
+    """Moments as dates, to the tick, both ways."""
+    records = record_script(TICKS.encode(), "encode")
+    faults = [] if record_script(DATED.encode(), "encode") == records else ["other records of dates"]
+    for words, text in [(["decode"], TICKS), (["decode", "--dates"], DATED)]:
+        told = record_script(records[1], *words)
+        faults += [] if told == (0, text.encode(), "") else [f"{words} gives {told}"]
+    told = record_script(b"", "moment", "2026-11-30T12:00:00Z", "638000000000500000")
+    if told != (0, b"639316368000000000\n2022-09-28T22:13:20.05Z\n", ""):
+        faults.append(f"moment gives {told}")
+    for word in ("2026-11-30", "2026-11-30T12:00Z", "2026-02-30T12:00:00Z", "2026-11-30T12:00:00", "x", "-1"):
+        status, output, error = record_script(b"", "moment", word)
+        if (status, output) != (1, b"") or word not in error:
+            faults.append(f"moment {word} gives {status}, {output} and {error}")
+    return faults
+
+
+def wrong_files(_):
+    """What records.py says of files that are for something else."""
+    faults = []
+    for name, word, told in [
+        ("rotation.records", "encode", "decode reads it"),
+        ("rotation.txt", "decode", "encode makes a list of one"),
+        ("one-key.txt", "decode", "encode makes a list of one"),
+        ("session.txt", "encode", "samples/frames.py reads it"),
+        ("cookie.txt", "encode", "samples/frames.py reads it"),
+    ]:
+        with open(os.path.join(TOP, "samples", name), "rb") as it:
+            status, output, error = record_script(it.read(), word)
+        if (status, output) != (1, b"") or told not in error:
+            faults.append(f"{word} of {name} gives {status}, {output} and {error}")
+    status, output, error = record_script(FRAMES, "decode")
+    if (status, output) != (1, b"") or "samples/frames.py reads them" not in error:
+        faults.append(f"decode of frames gives {status}, {output} and {error}")
+    return faults
+
+
 REQUESTS = """\
 # every kind, and a few refusals
 ring need 0
@@ -350,13 +526,13 @@ PROTECTING = [
 
 
 def script(word, given, *more):
-    """What samples/requests.py writes."""
-    words = [sys.executable, os.path.join(TOP, "samples", "requests.py"), word, *more]
+    """What samples/frames.py writes."""
+    words = [sys.executable, os.path.join(TOP, "samples", "frames.py"), word, *more]
     return subprocess.run(words, input=given, stdout=subprocess.PIPE, stderr=subprocess.PIPE)
 
 
 def requests_and_replies(program):
-    """A text of requests through samples/requests.py, the program, and back."""
+    """A text of requests through samples/frames.py, the program, and back."""
     encoded = script("encode", REQUESTS.encode())
     command = [program, "pipe", "--no-auto"]
     replies = subprocess.run(command, input=FRAMES, stdout=subprocess.PIPE).stdout
@@ -382,7 +558,7 @@ def requests_and_replies(program):
 
 
 def replies_of_all_kinds(_):
-    """Replies in literal bytes through samples/requests.py."""
+    """Replies in literal bytes through samples/frames.py."""
     requests = "".join(f"{line}\n" for line, _, _ in PROTECTING)
     replies = b"".join(frame(bytes.fromhex(reply)) for _, reply, _ in PROTECTING)
     wanted = "".join(f"{line.split()[0]}: {text}\n" for line, _, text in PROTECTING)
@@ -438,7 +614,7 @@ def bad_texts(_):
     return faults
 
 
-PREFIX = b"requests.py: line 3: "
+PREFIX = b"frames.py: line 3: "
 
 
 def all_clients():
@@ -451,7 +627,12 @@ def all_clients():
         ("a session without random bytes", no_random_bytes),
         ("samples/session.txt", lambda it: sample_session(it, "session")),
         ("samples/cookie.txt", lambda it: sample_session(it, "cookie")),
-        ("samples/requests.py there and back", requests_and_replies),
-        ("samples/requests.py on replies of all kinds", replies_of_all_kinds),
-        ("samples/requests.py on what are no requests", bad_texts),
+        ("samples/session.py on what are no requests", typos),
+        ("samples/session.py told to end", ended_from_outside),
+        ("--help of the samples", help_without_program),
+        ("samples/records.py on dates", dated_records),
+        ("samples/records.py on other files", wrong_files),
+        ("samples/frames.py there and back", requests_and_replies),
+        ("samples/frames.py on replies of all kinds", replies_of_all_kinds),
+        ("samples/frames.py on what are no requests", bad_texts),
     ]

@@ -1,4 +1,5 @@
-"""The listing that a list of records gives at a moment, read from the rules and from nothing else.
+"""The listing that a list of records gives at a moment, read from docs/FORMATS.md and from the policy in
+docs/DEFINITIONS.md ("default_key").
 
 A record here is any object with the fields of one of three kinds: a key with key_id (a uuid.UUID),
 creation, activation, expiration and alg; a revocation with key_id and date; a mass revocation with

@@ -1,5 +1,5 @@
 """The ring that a list of records gives at a moment, and what a payload opens to by it, read from
-docs/FORMATS.md and from nothing else."""
+docs/FORMATS.md, and by listing.py from the policy in docs/DEFINITIONS.md."""
 
 from listing import fallback_of, is_renewed, is_usable, keys_of, preferred_of, revoked_among
 from records import MAX_TICKS

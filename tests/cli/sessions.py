@@ -1,4 +1,5 @@
-"""What a session of framed requests has to answer, read from docs/FORMATS.md and from nothing else.
+"""What a session of framed requests has to answer, read from docs/FORMATS.md, and by listing.py from the
+policy in docs/DEFINITIONS.md.
 
 The program draws ids and what payloads are sealed with, and asks the system's clock, so the bytes of a
 reply aren't known beforehand. Here the list of elements is kept beside it: what was drawn and when is

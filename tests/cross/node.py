@@ -1,5 +1,6 @@
 """What the program answers byte for byte, where its draws and its clock are known: a node of one thread
-over a list that begins empty, read from docs/FORMATS.md alone, on tests/vectors/payloads.py."""
+over a list that begins empty, read from docs/FORMATS.md, and by tests/cli/listing.py from the policy in
+docs/DEFINITIONS.md, on tests/vectors/payloads.py."""
 
 import os
 import sys

@@ -1,7 +1,7 @@
 #!/usr/bin/env python3
 """Makes frames of requests from a readable text, and a readable text from frames of replies.
 
-    samples/requests.py encode < mine.txt | ./dp_server pipe | samples/requests.py decode mine.txt
+    samples/frames.py encode < mine.txt | ./dp_server pipe | samples/frames.py decode mine.txt
 
 The text has one request a line, its words with blanks between them. What follows a # outside of
 quotes is a comment, and lines without a word are skipped. The forms of request are
@@ -18,8 +18,8 @@ quotes is a comment, and lines without a word are skipped. The forms of request 
     unprotect-timed need N [allow revoked] purposes "TEXT".. payload BYTES
 
 N           how many elements the list of the ring has to have at least, in decimal digits
-DATE        ticks of 100 ns since 0001-01-01 UTC in decimal digits; or now, now+DAYS or now-DAYS,
-            by the system's clock when the line is read
+DATE        a date in UTC, as 2026-11-30T12:00:00Z; or ticks of 100 ns since 0001-01-01 UTC in decimal
+            digits; or now, now+DAYS or now-DAYS, by the system's clock when the line is read
 CODE        the code of an algorithm, 0 to 255. 1 to 9 can be used
 ID          a key's id in hexadecimal with hyphens; or made, which stands for the key that was
             rolled last. Its id is known to samples/session.py alone
@@ -46,7 +46,17 @@ import uuid
 
 sys.dont_write_bytecode = True
 
-from records import Refused, id_of, number_of, quoted, reason_bytes, reason_of, text_of, words_of
+from records import (
+    Refused,
+    id_of,
+    number_of,
+    quoted,
+    reason_bytes,
+    reason_of,
+    text_of,
+    ticks_of,
+    words_of,
+)
 
 DAY = 864000000000
 # The moment at which Unix time begins.
@@ -106,7 +116,7 @@ class Date(Number):
     def of_word(self, name, word):
         told = re.fullmatch("now([+-][0-9]{1,7})?", word)
         if not told:
-            return super().of_word(name, word)
+            return ticks_of(name, word) if "-" in word else super().of_word(name, word)
         moment = system_now() + int(told[1] or 0) * DAY
         if not 0 <= moment <= self.most():
             raise Refused(f"{name} is {word}, which is no moment")
@@ -121,7 +131,7 @@ class Id(Field):
 
     def as_bytes(self, key_id):
         if key_id is None:
-            raise Refused("the id of the key that was made isn't known; try samples/session.py")
+            raise Refused("made stands for the key that was rolled last, and none is known here")
         return key_id.bytes_le
 
     def take(self, body):
@@ -204,7 +214,7 @@ class Bytes(Field):
 
     def as_bytes(self, data):
         if data is None:
-            raise Refused("the payload that was protected isn't known; try samples/session.py")
+            raise Refused("protected stands for what was protected last, and nothing is known here")
         return data
 
     def take(self, body):
@@ -491,14 +501,16 @@ def decode(stream, kinds, taken):
 def main(words):
     given, taken = sys.stdin.buffer, sys.stdout.buffer
     try:
-        if words == ["encode"]:
+        if words == ["--help"]:
+            print(__doc__.strip())
+        elif words == ["encode"]:
             encode(given, taken)
         elif words[:1] == ["decode"] and len(words) <= 2:
             decode(given, kinds_of(words[1]) if words[1:] else None, taken)
         else:
-            raise Refused("give the word encode, or the word decode and a text of requests")
+            raise Refused("give the word encode, the word decode and a text of requests, or --help")
     except (Refused, OSError) as why:
-        print(f"requests.py: {why}", file=sys.stderr)
+        print(f"frames.py: {why}", file=sys.stderr)
         return 1
     return 0
 

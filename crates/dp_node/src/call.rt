@@ -218,7 +218,8 @@ impl<W, H: Host<W>, R: Repo<W>, D: Draw> Lent<'_, '_, '_, '_, '_, W, H, R, D> {
         requires free { (H.state self.old.host.now).held ≡ false }
         requires room { self.old.steps.now ≡ [] }
         ensures path { Does (CallPath (call at missing (H.state self.old.host.now)
-            (R.store self.old.repo.now).list (R.store self.new.repo.now).list) (seen result) (H.state self.new.host.now).own)
+            (R.store self.old.repo.now).list (R.store self.new.repo.now).list) (seen result)
+            (H.state self.new.host.now).own)
             (books [] (H.state self.old.host.now) (R.store self.old.repo.now)
             (D.draws self.old.draw.now)) (books_of H.state R.store D.draws self.new) }
         ensures free { (H.state self.new.host.now).held ≡ false }

@@ -59,7 +59,8 @@ impl<W, K: Keeper> Repo<W> for OwnRepo<K> {
             IfOk result (λ tail. IsTail known tail.items (store self.new).list) }
         ensures cause { let store = ⟦<OwnRepo<K> as Repo<W>>⟧.store in
             IfErr result (λ why. IsReadCause known (store self.new).list why) }
-        ensures list { let store = ⟦<OwnRepo<K> as Repo<W>>⟧.store in (store self.new).list ≡ (store self.old).list }
+        ensures list { let store = ⟦<OwnRepo<K> as Repo<W>>⟧.store in
+            (store self.new).list ≡ (store self.old).list }
     {
         self.calls = self.calls.saturating_add(1);
         match self.keeper.load(alloc, known) {

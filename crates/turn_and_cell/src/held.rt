@@ -23,7 +23,8 @@ pub fn take<T: Grows + Drop>(
     ensures taken { IfOk result (λ _. (holds seat.old ≡ false) × (holds seat.new ≡ true)) }
     ensures held { IfOk result (IsHeldBy viewer.new) }
     ensures line { IfOk result (λ _. InLine T.extends (known viewer.new)) }
-    ensures busy { IfErr result (λ _. (holds seat.new ≡ holds seat.old) × (known viewer.new ≡ known viewer.old)) }
+    ensures busy { IfErr result (λ _. (holds seat.new ≡ holds seat.old)
+        × (known viewer.new ≡ known viewer.old)) }
 {
     let mut setter = turn.try_take(seat)?;
     viewer.learn(setter.tell());

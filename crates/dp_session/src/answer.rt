@@ -6,25 +6,24 @@ ghost use Rattle.dp_base.specs.Draws.{DrawState};
 ghost use Rattle.dp_base.specs.Readers.{seen};
 ghost use Rattle.key_elements.specs.Lists.{Extends};
 ghost use Rattle.dp_node.specs.Books.{books};
+ghost use Rattle.dp_node.specs.Lent.{SameLoans, books_of};
 ghost use Rattle.dp_wire.specs.Request.{request_of, IsRequest, Ring as RingRequest};
 ghost use Rattle.dp_session.specs.Needs.{HasBadDates, IsShort, needs_ring};
 ghost use Rattle.dp_session.specs.Responding.{Responds};
 ghost use Rattle.dp_session.specs.Serving.{Served};
 ghost use Rattle.dp_session.specs.Sought.{IsSought};
 
-use crate::app::AppName;
+use crate::app::Shared;
 use crate::needs::{Sought, need_of, seek};
 use crate::opening::{opened, opened_text, opened_timed};
 use crate::placing::{place_key, place_mass_revocation, place_revocation};
 use crate::protecting::{protected, protected_text, protected_timed};
 use crate::response::{Response, bad_request, by_ring, refused};
 use dp_base::{Draw, MAX_TICKS, Memory};
-use dp_encryptor::HeaderTable;
-use dp_node::{At, Host, HostView, NodeError, ring_for};
+use dp_node::{At, Host, Lent, NodeError};
 use dp_wire::{BadRequest, Reply, RequestView};
 use key_ring::Ring;
 use repo_keeper::Repo;
-use ring_world::StepList;
 use std::alloc::Global;
 
 // The listing of a ring.
@@ -42,8 +41,7 @@ fn listed(alloc: Global, ring: &Ring) -> Result<Response, Memory>
 // The answer by a ring to a request that needs one.
 fn respond<D: Draw>(
     alloc: Global,
-    app: &AppName,
-    headers: &HeaderTable,
+    shared: &Shared<'_>,
     ring: &Ring,
     draw: &mut D,
     now: u64,
@@ -55,57 +53,40 @@ fn respond<D: Draw>(
     requires dates { HasBadDates (request_of view) now → ⊥ }
     requires sought { IsSought (request_of view) sought.now }
     requires kept { IfSome sought.now.payload (λ v. length v.items < 2 ^ 32) }
-    ensures { Responds app.now now (request_of view.entry) ring.now result (D.draws draw.old)
+    ensures { Responds shared.now.app.now now (request_of view.entry) ring.now result (D.draws draw.old)
         (D.draws draw.new) }
 {
     match view {
         RequestView::Ring { .. } => listed(alloc, ring),
         RequestView::Protect { chain, plain, .. } => {
-            protected(alloc, app, headers, ring, draw, &chain, plain)
+            protected(alloc, shared, ring, draw, &chain, plain)
         }
         RequestView::Unprotect {
             allow_revoked,
             chain,
             payload,
             ..
-        } => opened(alloc, app, headers, ring, &chain, payload, allow_revoked),
+        } => opened(alloc, shared, ring, &chain, payload, allow_revoked),
         RequestView::ProtectText { chain, text, .. } => {
-            protected_text(alloc, app, headers, ring, draw, &chain, text)
+            protected_text(alloc, shared, ring, draw, &chain, text)
         }
         RequestView::UnprotectText {
             allow_revoked,
             chain,
             ..
-        } => opened_text(
-            alloc,
-            app,
-            headers,
-            ring,
-            &chain,
-            &sought.payload,
-            allow_revoked,
-        ),
+        } => opened_text(alloc, shared, ring, &chain, &sought.payload, allow_revoked),
         RequestView::ProtectTimed {
             chain,
             expiry,
             plain,
             ..
-        } => protected_timed(alloc, app, headers, ring, draw, &chain, expiry, plain),
+        } => protected_timed(alloc, shared, ring, draw, &chain, expiry, plain),
         RequestView::UnprotectTimed {
             allow_revoked,
             chain,
             payload,
             ..
-        } => opened_timed(
-            alloc,
-            app,
-            headers,
-            ring,
-            &chain,
-            payload,
-            allow_revoked,
-            now,
-        ),
+        } => opened_timed(alloc, shared, ring, &chain, payload, allow_revoked, now),
         RequestView::Roll { .. } | RequestView::Revoke { .. } | RequestView::RevokeBefore { .. } =>
             { unreachable!() }
     }
@@ -113,112 +94,94 @@ fn respond<D: Draw>(
 
 // Serves a request that needs a ring.
 fn answer_by_ring<W, H: Host<W>, R: Repo<W>, D: Draw>(
-    w: &mut W,
-    alloc: Global,
-    host: &mut H,
-    repo: &mut R,
-    draw: &mut D,
-    app: &AppName,
-    headers: &HeaderTable,
+    lent: &mut Lent<'_, '_, '_, '_, '_, W, H, R, D>,
+    shared: &Shared<'_>,
     now: u64,
     view: RequestView<'_>,
-    steps: &mut StepList,
 ) -> Result<Response, Memory>
     requires moment { now ≤ LAST }
     requires short { IsShort (request_of view) }
     requires needs { needs_ring (request_of view) ≡ true }
     requires dates { HasBadDates (request_of view) now → ⊥ }
-    requires free { (H.state host.old).held ≡ false }
-    requires room { steps.old ≡ [] }
-    ensures served { (drawn : List ℕ) × Served app.now (Ok (request_of view.entry)) now result drawn
-        (books [] (H.state host.old) (R.store repo.old) (D.draws draw.old))
-        (books steps.new (H.state host.new) (R.store repo.new) (D.draws draw.new)) }
-    ensures free { (H.state host.new).held ≡ false }
-    ensures grows { Extends (H.state host.new).own (H.state host.old).own }
+    requires free { (H.state lent.old.host.now).held ≡ false }
+    requires room { lent.old.steps.now ≡ [] }
+    ensures served { (drawn : List ℕ) × Served shared.now.app.now (Ok (request_of view.entry)) now result drawn
+        (books [] (H.state lent.old.host.now) (R.store lent.old.repo.now) (D.draws lent.old.draw.now))
+        (books_of H.state R.store D.draws lent.new) }
+    ensures free { (H.state lent.new.host.now).held ≡ false }
+    ensures grows { Extends (H.state lent.new.host.now).own (H.state lent.old.host.now).own }
+    ensures loans { SameLoans lent.old lent.new }
 {
+    let alloc = lent.alloc;
     let sought = seek(alloc, view)?;
     let at = At {
         now,
         need: need_of(Ok(view)),
     };
-    match ring_for(w, alloc, host, repo, draw, at, sought.missing, steps) {
-        Ok(ring) => respond(alloc, app, headers, &ring, draw, now, view, &sought),
+    match lent.ring_for(at, sought.missing) {
+        Ok(ring) => respond(alloc, shared, &ring, lent.draw, now, view, &sought),
         Err(why) => refused(alloc, why),
     }
 }
 
 // Serves a request that was read.
 fn answer_view<W, H: Host<W>, R: Repo<W>, D: Draw>(
-    w: &mut W,
-    alloc: Global,
-    host: &mut H,
-    repo: &mut R,
-    draw: &mut D,
-    app: &AppName,
-    headers: &HeaderTable,
+    lent: &mut Lent<'_, '_, '_, '_, '_, W, H, R, D>,
+    shared: &Shared<'_>,
     now: u64,
     view: RequestView<'_>,
-    steps: &mut StepList,
 ) -> Result<Response, Memory>
     requires moment { now ≤ LAST }
     requires request { IsRequest (request_of view) }
     requires short { IsShort (request_of view) }
-    requires free { (H.state host.old).held ≡ false }
-    requires room { steps.old ≡ [] }
-    ensures served { (drawn : List ℕ) × Served app.now (Ok (request_of view.entry)) now result drawn
-        (books [] (H.state host.old) (R.store repo.old) (D.draws draw.old))
-        (books steps.new (H.state host.new) (R.store repo.new) (D.draws draw.new)) }
-    ensures free { (H.state host.new).held ≡ false }
-    ensures grows { Extends (H.state host.new).own (H.state host.old).own }
+    requires free { (H.state lent.old.host.now).held ≡ false }
+    requires room { lent.old.steps.now ≡ [] }
+    ensures served { (drawn : List ℕ) × Served shared.now.app.now (Ok (request_of view.entry)) now result drawn
+        (books [] (H.state lent.old.host.now) (R.store lent.old.repo.now) (D.draws lent.old.draw.now))
+        (books_of H.state R.store D.draws lent.new) }
+    ensures free { (H.state lent.new.host.now).held ≡ false }
+    ensures grows { Extends (H.state lent.new.host.now).own (H.state lent.old.host.now).own }
+    ensures loans { SameLoans lent.old lent.new }
 {
     match view {
         RequestView::Roll {
             activation,
             expiration,
             alg,
-        } => place_key(
-            w, alloc, host, repo, draw, now, activation, expiration, alg, steps,
-        ),
-        RequestView::Revoke { id, reason } => {
-            place_revocation(w, alloc, host, repo, now, id, reason, steps)
-        }
+        } => place_key(lent, now, activation, expiration, alg),
+        RequestView::Revoke { id, reason } => { place_revocation(lent, now, id, reason) }
         RequestView::RevokeBefore { date, reason } => {
-            place_mass_revocation(w, alloc, host, repo, now, date, reason, steps)
+            place_mass_revocation(lent, now, date, reason)
         }
         RequestView::ProtectTimed { expiry, .. } if expiry > MAX_TICKS => {
-            refused(alloc, NodeError::BadDates)
+            refused(lent.alloc, NodeError::BadDates)
         }
-        _ => answer_by_ring(w, alloc, host, repo, draw, app, headers, now, view, steps),
+        _ => answer_by_ring(lent, shared, now, view),
     }
 }
 
 /// Serves a request at the moment, in ticks: by a lawful path to a ring or to a place, or refuses it.
 pub(crate) fn answer<W, H: Host<W>, R: Repo<W>, D: Draw>(
-    w: &mut W,
-    alloc: Global,
-    host: &mut H,
-    repo: &mut R,
-    draw: &mut D,
-    app: &AppName,
-    headers: &HeaderTable,
+    lent: &mut Lent<'_, '_, '_, '_, '_, W, H, R, D>,
+    shared: &Shared<'_>,
     now: u64,
     request: Result<RequestView<'_>, BadRequest>,
-    steps: &mut StepList,
 ) -> Result<Response, Memory>
     requires moment { now ≤ LAST }
     requires request { IfOk request (λ view. IsRequest (request_of view)) }
     requires short { IfOk request (λ view. IsShort (request_of view)) }
-    requires free { (H.state host.old).held ≡ false }
-    requires room { steps.old ≡ [] }
+    requires free { (H.state lent.old.host.now).held ≡ false }
+    requires room { lent.old.steps.now ≡ [] }
     ensures served { (drawn : List ℕ)
-        × Served app.now (seen request_of request.entry) now result drawn
-        (books [] (H.state host.old) (R.store repo.old) (D.draws draw.old))
-        (books steps.new (H.state host.new) (R.store repo.new) (D.draws draw.new)) }
-    ensures free { (H.state host.new).held ≡ false }
-    ensures grows { Extends (H.state host.new).own (H.state host.old).own }
+        × Served shared.now.app.now (seen request_of request.entry) now result drawn
+        (books [] (H.state lent.old.host.now) (R.store lent.old.repo.now) (D.draws lent.old.draw.now))
+        (books_of H.state R.store D.draws lent.new) }
+    ensures free { (H.state lent.new.host.now).held ≡ false }
+    ensures grows { Extends (H.state lent.new.host.now).own (H.state lent.old.host.now).own }
+    ensures loans { SameLoans lent.old lent.new }
 {
     match request {
-        Ok(view) => answer_view(w, alloc, host, repo, draw, app, headers, now, view, steps),
-        Err(why) => bad_request(alloc, why),
+        Ok(view) => answer_view(lent, shared, now, view),
+        Err(why) => bad_request(lent.alloc, why),
     }
 }

@@ -4,6 +4,7 @@ ghost use Rattle.std.specs.Prelude.{◌≡◌, ◌≢◌, ◌↔◌, ◌<◌, �
 ghost use Rattle.dp_session.specs.declared.app.AppRefused.TheVariants as refused;
 
 use default_key::Options;
+use dp_encryptor::HeaderTable;
 use std::alloc::{AllocError, Global};
 use std::marker::Model;
 use thiserror::Error;
@@ -82,4 +83,13 @@ pub struct Setup {
     /// When the node makes keys, and which.
     pub options: Options,
     pub app: AppName,
+}
+
+/// What the requests of a session share.
+#[derive(Clone, Copy)]
+pub(crate) struct Shared<'a> {
+    /// The name in front of every chain.
+    pub app: &'a AppName,
+    /// The context headers that were worked out.
+    pub headers: &'a HeaderTable,
 }

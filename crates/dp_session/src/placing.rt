@@ -3,10 +3,10 @@
 ghost use Rattle.std.specs.Prelude.{◌≡◌, ◌≤◌, false, ℕ, List, [], Some, Ok, IfOk, MatchOption};
 ghost use Rattle.dp_base.specs.declared.ticks.TheConstants.{LAST};
 ghost use Rattle.dp_base.specs.Codes.{IsCode};
-ghost use Rattle.dp_base.specs.Draws.{DrawState};
 ghost use Rattle.key_elements.specs.Lists.{Extends};
 ghost use Rattle.key_elements.specs.Reason.{IsReason};
 ghost use Rattle.dp_node.specs.Books.{books};
+ghost use Rattle.dp_node.specs.Lent.{SameLoans, books_of};
 ghost use Rattle.dp_wire.specs.Replies.{reply_body};
 ghost use Rattle.dp_wire.specs.Request.{Roll, Revoke, RevokeBefore};
 ghost use Rattle.dp_session.specs.declared.trace.Used.TheVariants as used;
@@ -16,11 +16,10 @@ ghost use Rattle.dp_session.specs.Serving.{IsAnswer, Served};
 use crate::response::{Response, framed, refused};
 use crate::trace::Used;
 use dp_base::{Draw, Grows, KeyId, Memory, alg_of};
-use dp_node::{Host, HostView, revoke, revoke_before, roll};
+use dp_node::{Host, HostView, Lent, revoke, revoke_before, roll};
 use dp_wire::Reply;
 use key_elements::{Reason, TooLong};
 use repo_keeper::Repo;
-use ring_world::StepList;
 use std::alloc::Global;
 
 // The answer that an element was placed, at the end of what the pass has seen.
@@ -55,101 +54,99 @@ fn kept(alloc: Global, reason: &str) -> Result<Reason, Memory>
 
 /// A new key of these dates, in ticks.
 pub(crate) fn place_key<W, H: Host<W>, R: Repo<W>, D: Draw>(
-    w: &mut W,
-    alloc: Global,
-    host: &mut H,
-    repo: &mut R,
-    draw: &mut D,
+    lent: &mut Lent<'_, '_, '_, '_, '_, W, H, R, D>,
     now: u64,
     activation: u64,
     expiration: u64,
     code: u8,
-    steps: &mut StepList,
 ) -> Result<Response, Memory>
     requires moment { now ≤ LAST }
     requires code { IsCode code }
-    requires free { (H.state host.old).held ≡ false }
-    requires room { steps.old ≡ [] }
+    requires free { (H.state lent.old.host.now).held ≡ false }
+    requires room { lent.old.steps.now ≡ [] }
     ensures served { (app : List ℕ) → (drawn : List ℕ) × Served app
         (Ok (Roll activation expiration code)) now result drawn
-        (books [] (H.state host.old) (R.store repo.old) (D.draws draw.old))
-        (books steps.new (H.state host.new) (R.store repo.new) (D.draws draw.new)) }
-    ensures free { (H.state host.new).held ≡ false }
-    ensures grows { Extends (H.state host.new).own (H.state host.old).own }
+        (books [] (H.state lent.old.host.now) (R.store lent.old.repo.now) (D.draws lent.old.draw.now))
+        (books_of H.state R.store D.draws lent.new) }
+    ensures free { (H.state lent.new.host.now).held ≡ false }
+    ensures grows { Extends (H.state lent.new.host.now).own (H.state lent.old.host.now).own }
+    ensures loans { SameLoans lent.old lent.new }
 {
+    let alloc = lent.alloc;
     let Some(alg) = alg_of(code) else {
         unreachable!()
     };
     match roll(
-        w, alloc, host, repo, draw, now, activation, expiration, alg, steps,
+        lent.w, alloc, lent.host, lent.repo, lent.draw, now, activation, expiration, alg,
+        lent.steps,
     ) {
         Ok(key) => {
-            let front = host.own().len();
+            let front = lent.host.own().len();
             let reply = Reply::Rolled { front, id: key.id };
-            placed(alloc, host, key.place, &reply)
+            placed(alloc, lent.host, key.place, &reply)
         }
         Err(why) => refused(alloc, why),
     }
 }
 
 /// The revocation of a key.
-pub(crate) fn place_revocation<W, H: Host<W>, R: Repo<W>>(
-    w: &mut W,
-    alloc: Global,
-    host: &mut H,
-    repo: &mut R,
+pub(crate) fn place_revocation<W, H: Host<W>, R: Repo<W>, D: Draw>(
+    lent: &mut Lent<'_, '_, '_, '_, '_, W, H, R, D>,
     now: u64,
     id: KeyId,
     reason: &str,
-    steps: &mut StepList,
 ) -> Result<Response, Memory>
     requires moment { now ≤ LAST }
     requires reason { IsReason reason.now }
-    requires free { (H.state host.old).held ≡ false }
-    requires room { steps.old ≡ [] }
-    ensures served { (app : List ℕ) (draws : DrawState) → (drawn : List ℕ) × Served app
+    requires free { (H.state lent.old.host.now).held ≡ false }
+    requires room { lent.old.steps.now ≡ [] }
+    ensures served { (app : List ℕ) → (drawn : List ℕ) × Served app
         (Ok (Revoke id.0 reason.now)) now result drawn
-        (books [] (H.state host.old) (R.store repo.old) draws)
-        (books steps.new (H.state host.new) (R.store repo.new) draws) }
-    ensures free { (H.state host.new).held ≡ false }
-    ensures grows { Extends (H.state host.new).own (H.state host.old).own }
+        (books [] (H.state lent.old.host.now) (R.store lent.old.repo.now) (D.draws lent.old.draw.now))
+        (books_of H.state R.store D.draws lent.new) }
+    ensures free { (H.state lent.new.host.now).held ≡ false }
+    ensures grows { Extends (H.state lent.new.host.now).own (H.state lent.old.host.now).own }
+    ensures loans { SameLoans lent.old lent.new }
 {
+    let alloc = lent.alloc;
     let reason = kept(alloc, reason)?;
-    match revoke(w, alloc, host, repo, now, id, reason, steps) {
+    match revoke(
+        lent.w, alloc, lent.host, lent.repo, now, id, reason, lent.steps,
+    ) {
         Ok(place) => {
-            let front = host.own().len();
-            placed(alloc, host, place, &Reply::Revoked { front })
+            let front = lent.host.own().len();
+            placed(alloc, lent.host, place, &Reply::Revoked { front })
         }
         Err(why) => refused(alloc, why),
     }
 }
 
 /// The revocation of all keys made before a date, in ticks.
-pub(crate) fn place_mass_revocation<W, H: Host<W>, R: Repo<W>>(
-    w: &mut W,
-    alloc: Global,
-    host: &mut H,
-    repo: &mut R,
+pub(crate) fn place_mass_revocation<W, H: Host<W>, R: Repo<W>, D: Draw>(
+    lent: &mut Lent<'_, '_, '_, '_, '_, W, H, R, D>,
     now: u64,
     date: u64,
     reason: &str,
-    steps: &mut StepList,
 ) -> Result<Response, Memory>
     requires reason { IsReason reason.now }
-    requires free { (H.state host.old).held ≡ false }
-    requires room { steps.old ≡ [] }
-    ensures served { (app : List ℕ) (draws : DrawState) → (drawn : List ℕ) × Served app
+    requires free { (H.state lent.old.host.now).held ≡ false }
+    requires room { lent.old.steps.now ≡ [] }
+    ensures served { (app : List ℕ) → (drawn : List ℕ) × Served app
         (Ok (RevokeBefore date reason.now)) now result drawn
-        (books [] (H.state host.old) (R.store repo.old) draws)
-        (books steps.new (H.state host.new) (R.store repo.new) draws) }
-    ensures free { (H.state host.new).held ≡ false }
-    ensures grows { Extends (H.state host.new).own (H.state host.old).own }
+        (books [] (H.state lent.old.host.now) (R.store lent.old.repo.now) (D.draws lent.old.draw.now))
+        (books_of H.state R.store D.draws lent.new) }
+    ensures free { (H.state lent.new.host.now).held ≡ false }
+    ensures grows { Extends (H.state lent.new.host.now).own (H.state lent.old.host.now).own }
+    ensures loans { SameLoans lent.old lent.new }
 {
+    let alloc = lent.alloc;
     let reason = kept(alloc, reason)?;
-    match revoke_before(w, alloc, host, repo, date, reason, steps) {
+    match revoke_before(
+        lent.w, alloc, lent.host, lent.repo, date, reason, lent.steps,
+    ) {
         Ok(place) => {
-            let front = host.own().len();
-            placed(alloc, host, place, &Reply::RevokedBefore { front })
+            let front = lent.host.own().len();
+            placed(alloc, lent.host, place, &Reply::RevokedBefore { front })
         }
         Err(why) => refused(alloc, why),
     }

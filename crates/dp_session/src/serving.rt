@@ -7,6 +7,7 @@ ghost use Rattle.dp_base.specs.Readers.{seen};
 ghost use Rattle.dp_base.specs.Transfer.{Writes, WritesFront};
 ghost use Rattle.key_elements.specs.Lists.{Extends};
 ghost use Rattle.dp_node.specs.Books.{books};
+ghost use Rattle.dp_node.specs.Lent.{SameLoans, books_of};
 ghost use Rattle.dp_wire.specs.declared.frame.TheConstants.{MAX_BODY};
 ghost use Rattle.dp_wire.specs.Request.{request_of, IsRequest};
 ghost use Rattle.dp_session.specs.declared.status.Status.TheVariants.{ReadFault, WriteFault};
@@ -17,16 +18,15 @@ ghost use Rattle.dp_session.specs.Serving.{Served, state};
 ghost use Rattle.dp_session.specs.Turns.{turn_of, reply_bytes, list_after, halt_of, IsTurn};
 
 use crate::answer::answer;
-use crate::app::AppName;
+use crate::app::Shared;
 use crate::end::BadWhy;
 use crate::needs::need_of;
 use crate::reading::{Body, Frame, Unread, read_frame};
 use crate::response::Response;
 use crate::status::Status;
-use crate::trace::{Drawn, Entry, Used};
+use crate::trace::{Drawn, Entry, TraceSoFar, Used};
 use dp_base::{Clock, Draw, Failed, LAST, Memory, Sink, Source, Taped, write_all};
-use dp_encryptor::HeaderTable;
-use dp_node::{Host, HostView};
+use dp_node::{Host, HostView, Lent};
 use dp_wire::{BadRequest, RequestView, no_memory_frame};
 use key_elements::ElementList;
 use repo_keeper::Repo;
@@ -63,11 +63,10 @@ fn answer_taped<'t, W, H: Host<W>, R: Repo<W>, D: Draw>(
     host: &mut H,
     repo: &mut R,
     draw: &mut Taped<'t, D>,
-    app: &AppName,
-    headers: &HeaderTable,
+    steps: &mut StepList,
+    shared: &Shared<'_>,
     now: u64,
     request: Result<RequestView<'_>, BadRequest>,
-    steps: &mut StepList,
 ) -> Result<Response, Memory>
     requires moment { now ≤ LAST }
     requires request { IfOk request (λ view. IsRequest (request_of view)) }
@@ -76,45 +75,47 @@ fn answer_taped<'t, W, H: Host<W>, R: Repo<W>, D: Draw>(
     requires room { steps.old ≡ [] }
     ensures loan { draw.new.draw.ghost_name ≡ draw.old.draw.ghost_name }
     ensures served { (drawn : List ℕ)
-        × Served app.now (seen request_of request.entry) now result drawn
+        × Served shared.now.app.now (seen request_of request.entry) now result drawn
         (books [] (H.state host.old) (R.store repo.old) (⟦<Taped<'t, D> as Draw>⟧.draws draw.old))
         (books steps.new (H.state host.new) (R.store repo.new)
         (⟦<Taped<'t, D> as Draw>⟧.draws draw.new)) }
     ensures free { (H.state host.new).held ≡ false }
     ensures grows { Extends (H.state host.new).own (H.state host.old).own }
 {
-    answer(
-        w, alloc, host, repo, draw, app, headers, now, request, steps,
-    )
+    let mut lent = Lent {
+        w,
+        alloc,
+        host,
+        repo,
+        draw,
+        steps,
+    };
+    answer(&mut lent, shared, now, request)
 }
 
 // Serves a request, and tells the bytes that it drew.
 fn answer_told<W, H: Host<W>, R: Repo<W>, D: Draw>(
-    w: &mut W,
-    alloc: Global,
-    host: &mut H,
-    repo: &mut R,
-    draw: &mut D,
-    app: &AppName,
-    headers: &HeaderTable,
+    lent: &mut Lent<'_, '_, '_, '_, '_, W, H, R, D>,
+    shared: &Shared<'_>,
     now: u64,
     request: Result<RequestView<'_>, BadRequest>,
-    steps: &mut StepList,
 ) -> (Result<Response, Memory>, Drawn)
     requires moment { now ≤ LAST }
     requires request { IfOk request (λ view. IsRequest (request_of view)) }
     requires short { IfOk request (λ view. IsShort (request_of view)) }
-    requires free { (H.state host.old).held ≡ false }
-    requires room { steps.old ≡ [] }
-    ensures served { Served app.now (seen request_of request.entry) now result.0 result.1
-        (books [] (H.state host.old) (R.store repo.old) (D.draws draw.old))
-        (books steps.new (H.state host.new) (R.store repo.new) (D.draws draw.new)) }
-    ensures free { (H.state host.new).held ≡ false }
-    ensures grows { Extends (H.state host.new).own (H.state host.old).own }
+    requires free { (H.state lent.old.host.now).held ≡ false }
+    requires room { lent.old.steps.now ≡ [] }
+    ensures served { Served shared.now.app.now (seen request_of request.entry) now result.0 result.1
+        (books [] (H.state lent.old.host.now) (R.store lent.old.repo.now)
+        (D.draws lent.old.draw.now)) (books_of H.state R.store D.draws lent.new) }
+    ensures free { (H.state lent.new.host.now).held ≡ false }
+    ensures grows { Extends (H.state lent.new.host.now).own (H.state lent.old.host.now).own }
+    ensures loans { SameLoans lent.old lent.new }
 {
-    let mut taped = Taped::new(draw);
+    let alloc = lent.alloc;
+    let mut taped = Taped::new(lent.draw);
     let answered = answer_taped(
-        w, alloc, host, repo, &mut taped, app, headers, now, request, steps,
+        lent.w, alloc, lent.host, lent.repo, &mut taped, lent.steps, shared, now, request,
     );
     let drawn = Drawn::of(taped.bytes());
     (answered, drawn)
@@ -153,8 +154,7 @@ fn serve_body<W, H: Host<W>, R: Repo<W>, D: Draw>(
     host: &mut H,
     repo: &mut R,
     draw: &mut D,
-    app: &AppName,
-    headers: &HeaderTable,
+    shared: &Shared<'_>,
     now: u64,
     body: &Option<Vec<u8>>,
     steps: StepList,
@@ -163,7 +163,7 @@ fn serve_body<W, H: Host<W>, R: Repo<W>, D: Draw>(
     requires body { IfSome body.now (λ bytes. length bytes.items ≤ MAX_BODY) }
     requires free { (H.state host.old).held ≡ false }
     requires room { steps ≡ [] }
-    ensures turn { (bytes : List ℕ) → IsKept body.now bytes → IsTurn app.now bytes now
+    ensures turn { (bytes : List ℕ) → IsKept body.now bytes → IsTurn shared.now.app.now bytes now
         result
         (state (H.state host.old) (R.store repo.old) (D.draws draw.old) None)
         (state (H.state host.new) (R.store repo.new) (D.draws draw.new) None) }
@@ -175,9 +175,15 @@ fn serve_body<W, H: Host<W>, R: Repo<W>, D: Draw>(
             let request = RequestView::read(body.as_slice());
             let need = need_of(request);
             let mut steps = steps;
-            let (answered, drawn) = answer_told(
-                w, alloc, host, repo, draw, app, headers, now, request, &mut steps,
-            );
+            let mut lent = Lent {
+                w,
+                alloc,
+                host,
+                repo,
+                draw,
+                steps: &mut steps,
+            };
+            let (answered, drawn) = answer_told(&mut lent, shared, now, request);
             turn_of(answered, now, need, seen, steps, drawn)
         }
         None => turn_of(Err(Memory), now, 0, seen, steps, Drawn::none()),
@@ -215,46 +221,42 @@ fn serve_frame<W, H: Host<W>, R: Repo<W>, D: Draw, C: Clock, O: Sink>(
     host: &mut H,
     repo: &mut R,
     draw: &mut D,
-    app: &AppName,
-    headers: &HeaderTable,
+    shared: &Shared<'_>,
     clock: &mut C,
     output: &mut O,
     body: &Body,
     steps: StepList,
-    entries: &mut Vec<Entry>,
-    list: &mut ElementList,
+    trace: &mut TraceSoFar,
 ) -> Result<(), Failed>
     requires free { (H.state host.old).held ≡ false }
     requires body { IfSome body.now.kept (λ bytes. length bytes.items ≤ MAX_BODY) }
     requires steps { steps ≡ [] }
-    requires room { vec_len entries.old < vec_capacity entries.old }
+    requires room { vec_len trace.old.entries < vec_capacity trace.old.entries }
     ensures ok { OnOk result ((bytes : List ℕ) → Reads body.now bytes
-        → OneServed app.now Writes bytes
+        → OneServed shared.now.app.now Writes bytes
         (outside None (O.written output.old) (state (H.state host.old) (R.store repo.old)
-        (D.draws draw.old) (C.moments clock.old)) entries.old.items list.old)
+        (D.draws draw.old) (C.moments clock.old)) trace.old.entries.items trace.old.list)
         (outside None (O.written output.new) (state (H.state host.new) (R.store repo.new)
-        (D.draws draw.new) (C.moments clock.new)) entries.new.items list.new)) }
+        (D.draws draw.new) (C.moments clock.new)) trace.new.entries.items trace.new.list)) }
     ensures err { OnErr result ((bytes : List ℕ) → Reads body.now bytes
-        → OneServed app.now WritesFront bytes
+        → OneServed shared.now.app.now WritesFront bytes
         (outside None (O.written output.old) (state (H.state host.old) (R.store repo.old)
-        (D.draws draw.old) (C.moments clock.old)) entries.old.items list.old)
+        (D.draws draw.old) (C.moments clock.old)) trace.old.entries.items trace.old.list)
         (outside None (O.written output.new) (state (H.state host.new) (R.store repo.new)
-        (D.draws draw.new) (C.moments clock.new)) entries.new.items list.new)) }
+        (D.draws draw.new) (C.moments clock.new)) trace.new.entries.items trace.new.list)) }
     ensures free { (H.state host.new).held ≡ false }
     ensures no_fault { OnOk result (O.faults output.new ≡ O.faults output.old) }
     ensures fault { OnErr result (O.faults output.new ≡ one_more (O.faults output.old)) }
 {
     let now = clock.now().min(LAST);
-    let turn = serve_body(
-        w, alloc, host, repo, draw, app, headers, now, &body.kept, steps,
-    );
+    let turn = serve_body(w, alloc, host, repo, draw, shared, now, &body.kept, steps);
     let Turn {
         entry,
         reply,
         list: longer,
     } = turn;
-    let _ = entries.push(entry);
-    grow(list, longer);
+    let _ = trace.entries.push(entry);
+    grow(&mut trace.list, longer);
     put_frame(output, &reply)
 }
 
@@ -288,25 +290,23 @@ pub(crate) fn serve_one<W, H: Host<W>, R: Repo<W>, D: Draw, C: Clock, I: Source,
     host: &mut H,
     repo: &mut R,
     draw: &mut D,
-    app: &AppName,
-    headers: &HeaderTable,
+    shared: &Shared<'_>,
     clock: &mut C,
     input: &mut I,
     output: &mut O,
-    entries: &mut Vec<Entry>,
-    list: &mut ElementList,
+    trace: &mut TraceSoFar,
 ) -> Result<u64, Halt>
     requires free { (H.state host.old).held ≡ false }
-    ensures ok { IfOk result (OneMore app.now Writes
+    ensures ok { IfOk result (OneMore shared.now.app.now Writes
         (outside (I.left input.old) (O.written output.old) (state (H.state host.old)
-        (R.store repo.old) (D.draws draw.old) (C.moments clock.old)) entries.old.items list.old)
+        (R.store repo.old) (D.draws draw.old) (C.moments clock.old)) trace.old.entries.items trace.old.list)
         (outside (I.left input.new) (O.written output.new) (state (H.state host.new)
-        (R.store repo.new) (D.draws draw.new) (C.moments clock.new)) entries.new.items list.new)) }
-    ensures err { IfErr result (λ halt. EndsAt app.now halt.status halt.bad
+        (R.store repo.new) (D.draws draw.new) (C.moments clock.new)) trace.new.entries.items trace.new.list)) }
+    ensures err { IfErr result (λ halt. EndsAt shared.now.app.now halt.status halt.bad
         (outside (I.left input.old) (O.written output.old) (state (H.state host.old)
-        (R.store repo.old) (D.draws draw.old) (C.moments clock.old)) entries.old.items list.old)
+        (R.store repo.old) (D.draws draw.old) (C.moments clock.old)) trace.old.entries.items trace.old.list)
         (outside (I.left input.new) (O.written output.new) (state (H.state host.new)
-        (R.store repo.new) (D.draws draw.new) (C.moments clock.new)) entries.new.items list.new)) }
+        (R.store repo.new) (D.draws draw.new) (C.moments clock.new)) trace.new.entries.items trace.new.list)) }
     ensures free { (H.state host.new).held ≡ false }
     ensures read_fault { IfErr result (λ halt. halt.status ≡ ReadFault
         → I.faults input.new ≡ one_more (I.faults input.old)) }
@@ -317,7 +317,7 @@ pub(crate) fn serve_one<W, H: Host<W>, R: Repo<W>, D: Draw, C: Clock, I: Source,
     ensures no_write_fault { MatchResult result (λ _. O.faults output.new ≡ O.faults output.old)
         (λ halt. halt.status ≢ WriteFault → O.faults output.new ≡ O.faults output.old) }
 {
-    let steps = match reserve(alloc, entries) {
+    let steps = match reserve(alloc, &mut trace.entries) {
         Ok(steps) => steps,
         Err(_) => return Err(ended(Status::NoMemory)),
     };
@@ -327,7 +327,7 @@ pub(crate) fn serve_one<W, H: Host<W>, R: Repo<W>, D: Draw, C: Clock, I: Source,
         Err(why) => return Err(unread(why)),
     };
     match serve_frame(
-        w, alloc, host, repo, draw, app, headers, clock, output, &body, steps, entries, list,
+        w, alloc, host, repo, draw, shared, clock, output, &body, steps, trace,
     ) {
         Ok(()) => Ok(4 + u64::from(body.len)),
         Err(_) => Err(ended(Status::WriteFault)),

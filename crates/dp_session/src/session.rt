@@ -9,11 +9,11 @@ ghost use Rattle.dp_session.specs.Shut.{AreShut};
 ghost use Rattle.dp_session.specs.Serving.{state};
 ghost use Rattle.dp_session.specs.Session.{EndsInput, IsSpentEnd, IsSession, bad_at, outside};
 
-use crate::app::Setup;
+use crate::app::{Setup, Shared};
 use crate::end::{BadPlace, SessionEnd};
 use crate::serving::{Halt, serve_one};
 use crate::status::Status;
-use crate::trace::{Entries, Trace};
+use crate::trace::TraceSoFar;
 use dp_base::{Clock, Draw, Sink, Source, read_full};
 use dp_encryptor::HeaderTable;
 use dp_node::{Host, HostView};
@@ -113,33 +113,25 @@ pub fn serve_session<W, H: Host<W>, R: Repo<W>, D: Draw, C: Clock, I: Source, O:
     ensures no_write_fault { result.status ≢ WriteFault
         → O.faults output.new ≡ O.faults output.old }
 {
-    let mut entries = Vec::new(alloc);
-    let mut list = ElementList::empty();
+    let shared = Shared {
+        app: &setup.app,
+        headers,
+    };
+    let mut trace = TraceSoFar {
+        entries: Vec::new(alloc),
+        list: ElementList::empty(),
+    };
     let mut place = 0;
     'requests: for _ in 0..MAX_REQUESTS {
         match serve_one(
-            w,
-            alloc,
-            host,
-            repo,
-            draw,
-            &setup.app,
-            headers,
-            clock,
-            input,
-            output,
-            &mut entries,
-            &mut list,
+            w, alloc, host, repo, draw, &shared, clock, input, output, &mut trace,
         ) {
             Ok(len) => place += len,
             Err(halt) => {
                 return SessionEnd {
                     status: halt.status,
                     bad: bad_place(halt, place),
-                    trace: Trace {
-                        list,
-                        entries: Entries::of(entries),
-                    },
+                    trace: trace.end(),
                 };
             }
         }
@@ -147,9 +139,6 @@ pub fn serve_session<W, H: Host<W>, R: Repo<W>, D: Draw, C: Clock, I: Source, O:
     SessionEnd {
         status: end_of_spent(input),
         bad: None,
-        trace: Trace {
-            list,
-            entries: Entries::of(entries),
-        },
+        trace: trace.end(),
     }
 }

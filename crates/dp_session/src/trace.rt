@@ -146,3 +146,24 @@ impl Trace {
         }
     }
 }
+
+/// What the requests so far used: their entries, and the longest list.
+#[derive(Drop)]
+pub(crate) struct TraceSoFar {
+    pub entries: Vec<Entry>,
+    pub list: ElementList,
+}
+
+impl TraceSoFar {
+    /// The trace, whole.
+    pub fn end(self) -> Trace
+        ensures list { result.list ≡ self.list }
+        ensures entries { result.entries ≡ self.entries.items }
+    {
+        let TraceSoFar { entries, list } = self;
+        Trace {
+            list,
+            entries: Entries::of(entries),
+        }
+    }
+}

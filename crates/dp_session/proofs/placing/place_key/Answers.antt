@@ -12,7 +12,7 @@ use Rattle.dp_session.proofs.placing.place_key.Goals as goal
 pub returns-in-Ok-clause-served : goal.returns-in-Ok-clause-served
 returns-in-Ok-clause-served g c = λ app.
     let p = Roll c.args.activation c.args.expiration c.args.code in
-    let own = (g.H.HostView.state c.args.host.now).own in
+    let own = (g.H.HostView.state c.args.lent.now.host.now).own in
     let told = (g.R.Repo.store c.roll.new.repo).list in
     let a : Asked = asked own true (λ bytes. key_of_draw bytes c.args.now c.args.activation c.args.expiration (code_of c.in-Some.alg)) told in
     let good : AreBadDates c.args.now c.args.activation c.args.expiration → ⊥ = λ bad. let e = c.in-Ok.ensures.bad_dates.1 bad in cc in
@@ -25,9 +25,9 @@ returns-in-Ok-clause-served g c = λ app.
 pub returns-in-Err-clause-served : goal.returns-in-Err-clause-served
 returns-in-Err-clause-served g c = λ app.
     let p = Roll c.args.activation c.args.expiration c.args.code in
-    let h = g.H.HostView.state c.args.host.now in
-    let store = g.R.Repo.store c.args.repo.now in
-    let draws = g.D.Draw.draws c.args.draw.now in
+    let h = g.H.HostView.state c.args.lent.now.host.now in
+    let store = g.R.Repo.store c.args.lent.now.repo.now in
+    let draws = g.D.Draw.draws c.args.lent.now.draw.now in
     let told = (g.R.Repo.store c.roll.new.repo).list in
     let old = books [] h store draws in
     let new = books c.roll.new.steps (g.H.HostView.state c.roll.new.host) (g.R.Repo.store c.roll.new.repo) (g.D.Draw.draws c.roll.new.draw) in

@@ -12,9 +12,10 @@ use Rattle.dp_session.proofs.Answers.{placed_given, placed_refused, front_at, mi
 use Rattle.dp_session.proofs.placing.place_mass_revocation.Goals as goal
 
 pub returns-in-Ok-clause-served : goal.returns-in-Ok-clause-served
-returns-in-Ok-clause-served g c = λ app draws.
+returns-in-Ok-clause-served g c = λ app.
+    let draws = g.D.Draw.draws c.args.lent.now.draw.now in
     let p = RevokeBefore c.args.date c.args.reason.now in
-    let own = (g.H.HostView.state c.args.host.now).own in
+    let own = (g.H.HostView.state c.args.lent.now.host.now).own in
     let told = (g.R.Repo.store c.revoke_before.new.repo).list in
     let a : Asked = asked own false (λ _. Before c.args.date c.in_ok-reason.reason) told in
     let good : MAX_TICKS < c.args.date → ⊥ = λ bad. let e = c.in-Ok.ensures.bad_dates.1 bad in cc in
@@ -25,10 +26,11 @@ returns-in-Ok-clause-served g c = λ app draws.
     (x.course.drawn, placed_given app p c.args.now a _ _ good asks c.in-Ok.place _ _ x c.placed.ensures (ap (λ (n : ℕ). reply_body (replies.RevokedBefore n)) front))
 
 pub returns-in-Err-clause-served : goal.returns-in-Err-clause-served
-returns-in-Err-clause-served g c = λ app draws.
+returns-in-Err-clause-served g c = λ app.
+    let draws = g.D.Draw.draws c.args.lent.now.draw.now in
     let p = RevokeBefore c.args.date c.args.reason.now in
-    let h = g.H.HostView.state c.args.host.now in
-    let store = g.R.Repo.store c.args.repo.now in
+    let h = g.H.HostView.state c.args.lent.now.host.now in
+    let store = g.R.Repo.store c.args.lent.now.repo.now in
     let told = (g.R.Repo.store c.revoke_before.new.repo).list in
     let old = books [] h store draws in
     let new = books c.revoke_before.new.steps (g.H.HostView.state c.revoke_before.new.host) (g.R.Repo.store c.revoke_before.new.repo) draws in

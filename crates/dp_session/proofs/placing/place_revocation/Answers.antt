@@ -9,9 +9,10 @@ use Rattle.dp_session.proofs.Answers.{placed_given, placed_refused, front_at}
 use Rattle.dp_session.proofs.placing.place_revocation.Goals as goal
 
 pub returns-in-Ok-clause-served : goal.returns-in-Ok-clause-served
-returns-in-Ok-clause-served g c = λ app draws.
+returns-in-Ok-clause-served g c = λ app.
+    let draws = g.D.Draw.draws c.args.lent.now.draw.now in
     let p = Revoke c.args.id.0 c.args.reason.now in
-    let own = (g.H.HostView.state c.args.host.now).own in
+    let own = (g.H.HostView.state c.args.lent.now.host.now).own in
     let told = (g.R.Repo.store c.revoke.new.repo).list in
     let a : Asked = asked own false (λ _. RevokeKey c.args.id c.args.now c.in_ok-reason.reason) told in
     let x = c.in-Ok.ensures.path draws in
@@ -20,9 +21,10 @@ returns-in-Ok-clause-served g c = λ app draws.
     (x.course.drawn, placed_given app p c.args.now a _ _ (λ bad. bad) asks c.in-Ok.place _ _ x c.placed.ensures (ap (λ (n : ℕ). reply_body (replies.Revoked n)) front))
 
 pub returns-in-Err-clause-served : goal.returns-in-Err-clause-served
-returns-in-Err-clause-served g c = λ app draws.
+returns-in-Err-clause-served g c = λ app.
+    let draws = g.D.Draw.draws c.args.lent.now.draw.now in
     let p = Revoke c.args.id.0 c.args.reason.now in
-    let own = (g.H.HostView.state c.args.host.now).own in
+    let own = (g.H.HostView.state c.args.lent.now.host.now).own in
     let told = (g.R.Repo.store c.revoke.new.repo).list in
     let a : Asked = asked own false (λ _. RevokeKey c.args.id c.args.now c.in_ok-reason.reason) told in
     let x = c.in-Err.ensures.path draws in

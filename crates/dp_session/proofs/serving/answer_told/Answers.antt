@@ -16,5 +16,4 @@ pub returns-clause-served : goal.returns-clause-served
 returns-clause-served g c =
     let s = c.answer_taped-answered.ensures.served in
     let bytes : List ℕ = c.bytes.result.now in
-    let end = c.draw-1.given.1 (sym (c.answer_taped-answered.ensures.loan ∙ c.new-taped.ensures.loan)) in
-    rw c.of-drawn.ensures (told_served _ (seen request_of c.args.request) c.args.now c.answer_taped-answered.result s.0 bytes _ _ _ _ _ _ _ (g.D.Draw.draws c.args.draw.now) (g.D.Draw.draws c.answer_taped-answered.new.draw.draw.now) _ _ c.answer_taped-answered.new.draw.draw.ghost_name c.answer_taped-answered.new.draw.tape c.new-taped.ensures.draws refl (ap g.D.Draw.draws end) s.1 c.bytes.ensures)
+    rw c.of-drawn.ensures (told_served _ (seen request_of c.args.request) c.args.now c.answer_taped-answered.result s.0 bytes _ _ _ _ _ _ _ (g.D.Draw.draws c.args.lent.now.draw.now) (g.D.Draw.draws c.answer_taped-answered.new.draw.draw.now) _ _ c.answer_taped-answered.new.draw.draw.ghost_name c.answer_taped-answered.new.draw.tape c.new-taped.ensures.draws refl refl s.1 c.bytes.ensures)

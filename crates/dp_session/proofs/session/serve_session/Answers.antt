@@ -8,9 +8,9 @@ use Rattle.dp_session.proofs.session.serve_session.Goals as goal
 
 pub requests-init : goal.requests-init
 requests-init g c = record {
-  so_far = rw (c.new-entries.ensures.items, c.empty-list.ensures) (so_far-none _ _ _ _);
+  so_far = rw (c.new.ensures.items, c.empty.ensures) (so_far-none _ _ _ _);
   free = c.requires.free;
-  count = ap length c.new-entries.ensures.items;
+  count = ap length c.new.ensures.items;
   room = omega arith;
   no_read_fault = refl;
   no_write_fault = refl;
@@ -31,11 +31,11 @@ overflow_add-place g c = omega (arith, c.requests.invariant.room, frame-bound _ 
 
 pub returns-in-Err-clause-session : goal.returns-in-Err-clause-session
 returns-in-Err-clause-session g c =
-    rw (c.of.ensures, c.bad_place.ensures) (session_ends _ c.in-Err.halt.status c.in-Err.halt.bad _ _ _ c.requests.place c.requests.invariant.so_far c.in-Err.ensures.err)
+    rw (c.end.ensures.entries, c.end.ensures.list, c.bad_place.ensures) (session_ends _ c.in-Err.halt.status c.in-Err.halt.bad _ _ _ c.requests.place c.requests.invariant.so_far c.in-Err.ensures.err)
 
 pub returns-in-Err-clause-few : goal.returns-in-Err-clause-few
 returns-in-Err-clause-few g c =
-    omega (arith, ap length c.of.ensures, ends-few _ c.in-Err.halt.status c.in-Err.halt.bad _ _ c.in-Err.ensures.err, c.requests.invariant.count, c.requests-test.true)
+    omega (arith, ap length c.end.ensures.entries, ends-few _ c.in-Err.halt.status c.in-Err.halt.bad _ _ c.in-Err.ensures.err, c.requests.invariant.count, c.requests-test.true)
 
 pub returns-in-Err-clause-bad : goal.returns-in-Err-clause-bad
 returns-in-Err-clause-bad g c = rw c.bad_place.ensures (ends-bad _ c.in-Err.halt.status c.in-Err.halt.bad c.requests.place _ _ c.in-Err.ensures.err)
@@ -54,17 +54,17 @@ returns-in-Err-clause-no_write_fault g c = λ e. c.in-Err.ensures.no_write_fault
 
 pub returns-clause-session : goal.returns-clause-session
 returns-clause-session g c =
-    rw c.of-2.ensures (session_spent _ c.end_of_spent.result _ _ _ c.requests.place c.requests.invariant.so_far c.end_of_spent.ensures.status c.end_of_spent.ensures.ends)
+    rw (c.end-2.ensures.entries, c.end-2.ensures.list) (session_spent _ c.end_of_spent.result _ _ _ c.requests.place c.requests.invariant.so_far c.end_of_spent.ensures.status c.end_of_spent.ensures.ends)
 
 pub returns-clause-few : goal.returns-clause-few
-returns-clause-few g c = omega (arith, ap length c.of-2.ensures, c.requests.invariant.count, c.requests.auto.counter-end)
+returns-clause-few g c = omega (arith, ap length c.end-2.ensures.entries, c.requests.invariant.count, c.requests.auto.counter-end)
 
 pub returns-clause-spent : goal.returns-clause-spent
-returns-clause-spent g c = λ e. omega (arith, ap length c.of-2.ensures, c.requests.invariant.count, c.requests.auto.counter-end, c.requests-test.false)
+returns-clause-spent g c = λ e. omega (arith, ap length c.end-2.ensures.entries, c.requests.invariant.count, c.requests.auto.counter-end, c.requests-test.false)
 
 pub returns-in-Err-clause-spent_end : goal.returns-in-Err-clause-spent_end
 returns-in-Err-clause-spent_end g c = λ most other.
-    absurd (omega (arith, most, ap length c.of.ensures, ends-same _ c.in-Err.halt.status c.in-Err.halt.bad _ _ c.in-Err.ensures.err other, c.requests.invariant.count, c.requests-test.true))
+    absurd (omega (arith, most, ap length c.end.ensures.entries, ends-same _ c.in-Err.halt.status c.in-Err.halt.bad _ _ c.in-Err.ensures.err other, c.requests.invariant.count, c.requests-test.true))
 
 pub returns-clause-spent_end : goal.returns-clause-spent_end
 returns-clause-spent_end g c = λ most other. c.end_of_spent.ensures.status

@@ -331,10 +331,19 @@ def is_gone(process):
     return False
 
 
+ENDINGS = (signal.SIGTERM, signal.SIGINT, signal.SIGHUP)
+
+
+def heed():
+    """Whatever runs these tests in the background may have some of the signals ignored."""
+    for number in ENDINGS:
+        signal.signal(number, signal.SIG_DFL)
+
+
 def ended_from_outside(_):
     """What session.py started ends when session.py is told to end."""
     faults = []
-    for number in (signal.SIGTERM, signal.SIGINT, signal.SIGHUP):
+    for number in ENDINGS:
         with tempfile.TemporaryDirectory() as folder:
             words = copied(None, folder)
             program = os.path.join(folder, "dp_server")
@@ -342,7 +351,7 @@ def ended_from_outside(_):
                 it.write(DEAF)
             os.chmod(program, 0o755)
             silent = {"stdout": subprocess.DEVNULL, "stderr": subprocess.DEVNULL}
-            script = subprocess.Popen(words, stdin=subprocess.PIPE, **silent)
+            script = subprocess.Popen(words, stdin=subprocess.PIPE, preexec_fn=heed, **silent)
             with script:
                 script.stdin.write(b"ring need 0\n")
                 script.stdin.flush()
@@ -354,7 +363,10 @@ def ended_from_outside(_):
                         with open(f"{program}.pids") as it:
                             pids = it.read().split()
                 script.send_signal(number)
-                script.wait(SECONDS)
+                try:
+                    script.wait(SECONDS)
+                except subprocess.TimeoutExpired:
+                    script.kill()
             if script.returncode != 128 + number or len(pids) < 2 or not all(map(is_gone, pids)):
                 faults.append(f"after {number} it ends with {script.returncode}, and {pids} go on")
     return faults

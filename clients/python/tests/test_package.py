@@ -111,7 +111,15 @@ class Installation(unittest.TestCase):
             if made.returncode != 0:
                 self.skipTest("python -m venv makes none here")
             python = os.path.join(folder, "bin", "python")
-            for more in ([], ["--no-build-isolation", "--force-reinstall"], ["--editable"]):
+            told = run(python, "-m", "pip", "--version", cwd=folder).stdout
+            numbers = re.match(r"pip (\d+)\.(\d+)", told)
+            pip = (int(numbers[1]), int(numbers[2])) if numbers else (0, 0)
+            if pip < (20, 0):
+                self.skipTest("pip here knows no backend that stands beside a package")
+            ways = [[], ["--no-build-isolation", "--force-reinstall"]]
+            # Before, it made editable only what has a setup.py.
+            ways += [["--editable"]] if pip >= (21, 3) else []
+            for more in ways:
                 with self.subTest(more):
                     command = [python, "-m", "pip", "install", "--no-index", *more, support.CLIENT]
                     told = run(*command, cwd=folder)

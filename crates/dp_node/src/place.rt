@@ -109,8 +109,8 @@ pub fn roll<W, H: Host<W>, R: Repo<W>, D: Draw>(
     Ok(Placed { place, id })
 }
 
-/// Revokes the key with the id, in ticks, whether or not there is one, and gives the place of the
-/// revocation, from 0.
+/// Revokes the key with the id, whether or not there is one, and gives the place of the revocation,
+/// from 0.
 pub fn revoke<W, H: Host<W>, R: Repo<W>>(
     w: &mut W,
     alloc: Global,

@@ -10,3 +10,4 @@ pub mod Session
 pub mod Turns
 pub mod Fresh
 pub mod Shut
+pub mod Loans

@@ -15,6 +15,7 @@ ghost use Rattle.dp_session.specs.Frames.{IsKept, Reads};
 ghost use Rattle.dp_session.specs.Session.{EndsAt, OneMore, OneServed, outside};
 ghost use Rattle.dp_session.specs.Needs.{IsShort};
 ghost use Rattle.dp_session.specs.Serving.{Served, state};
+ghost use Rattle.dp_session.specs.Loans.{SameServing, state_of};
 ghost use Rattle.dp_session.specs.Turns.{turn_of, reply_bytes, list_after, halt_of, IsTurn};
 
 use crate::answer::answer;
@@ -54,6 +55,17 @@ pub(crate) struct Turn {
     pub entry: Entry,
     pub reply: Option<Vec<u8>>,
     pub list: Option<ElementList>,
+}
+
+/// What a session is lent beside its streams.
+#[derive(Drop)]
+pub(crate) struct Serving<'w, 'h, 'r, 'd, 'c, W, H, R, D, C> {
+    pub w: &'w mut W,
+    pub alloc: Global,
+    pub host: &'h mut H,
+    pub repo: &'r mut R,
+    pub draw: &'d mut D,
+    pub clock: &'c mut C,
 }
 
 // Serves a request over a draw that tells what it gives, and stands on the same loan afterwards.
@@ -147,49 +159,6 @@ fn turn_of(
     Turn { entry, reply, list }
 }
 
-// Serves the request of a body at the moment, in ticks; a body that isn't kept finds no memory.
-fn serve_body<W, H: Host<W>, R: Repo<W>, D: Draw>(
-    w: &mut W,
-    alloc: Global,
-    host: &mut H,
-    repo: &mut R,
-    draw: &mut D,
-    shared: &Shared<'_>,
-    now: u64,
-    body: &Option<Vec<u8>>,
-    steps: StepList,
-) -> Turn
-    requires moment { now ≤ LAST }
-    requires body { IfSome body.now (λ bytes. length bytes.items ≤ MAX_BODY) }
-    requires free { (H.state host.old).held ≡ false }
-    requires room { steps ≡ [] }
-    ensures turn { (bytes : List ℕ) → IsKept body.now bytes → IsTurn shared.now.app.now bytes now
-        result
-        (state (H.state host.old) (R.store repo.old) (D.draws draw.old) None)
-        (state (H.state host.new) (R.store repo.new) (D.draws draw.new) None) }
-    ensures free { (H.state host.new).held ≡ false }
-{
-    let seen = host.own().len();
-    match body {
-        Some(body) => {
-            let request = RequestView::read(body.as_slice());
-            let need = need_of(request);
-            let mut steps = steps;
-            let mut lent = Lent {
-                w,
-                alloc,
-                host,
-                repo,
-                draw,
-                steps: &mut steps,
-            };
-            let (answered, drawn) = answer_told(&mut lent, shared, now, request);
-            turn_of(answered, now, need, seen, steps, drawn)
-        }
-        None => turn_of(Err(Memory), now, 0, seen, steps, Drawn::none()),
-    }
-}
-
 // Writes the frame of a reply, or the one that no memory was found.
 fn put_frame<O: Sink>(output: &mut O, reply: &Option<Vec<u8>>) -> Result<(), Failed>
     ensures ok { OnOk result (Writes (O.written output.old) (O.written output.new)
@@ -214,52 +183,6 @@ fn grow(list: &mut ElementList, longer: Option<ElementList>)
     }
 }
 
-// Serves the request of a body, keeps its entry and its list, and writes its reply.
-fn serve_frame<W, H: Host<W>, R: Repo<W>, D: Draw, C: Clock, O: Sink>(
-    w: &mut W,
-    alloc: Global,
-    host: &mut H,
-    repo: &mut R,
-    draw: &mut D,
-    shared: &Shared<'_>,
-    clock: &mut C,
-    output: &mut O,
-    body: &Body,
-    steps: StepList,
-    trace: &mut TraceSoFar,
-) -> Result<(), Failed>
-    requires free { (H.state host.old).held ≡ false }
-    requires body { IfSome body.now.kept (λ bytes. length bytes.items ≤ MAX_BODY) }
-    requires steps { steps ≡ [] }
-    requires room { vec_len trace.old.entries < vec_capacity trace.old.entries }
-    ensures ok { OnOk result ((bytes : List ℕ) → Reads body.now bytes
-        → OneServed shared.now.app.now Writes bytes
-        (outside None (O.written output.old) (state (H.state host.old) (R.store repo.old)
-        (D.draws draw.old) (C.moments clock.old)) trace.old.entries.items trace.old.list)
-        (outside None (O.written output.new) (state (H.state host.new) (R.store repo.new)
-        (D.draws draw.new) (C.moments clock.new)) trace.new.entries.items trace.new.list)) }
-    ensures err { OnErr result ((bytes : List ℕ) → Reads body.now bytes
-        → OneServed shared.now.app.now WritesFront bytes
-        (outside None (O.written output.old) (state (H.state host.old) (R.store repo.old)
-        (D.draws draw.old) (C.moments clock.old)) trace.old.entries.items trace.old.list)
-        (outside None (O.written output.new) (state (H.state host.new) (R.store repo.new)
-        (D.draws draw.new) (C.moments clock.new)) trace.new.entries.items trace.new.list)) }
-    ensures free { (H.state host.new).held ≡ false }
-    ensures no_fault { OnOk result (O.faults output.new ≡ O.faults output.old) }
-    ensures fault { OnErr result (O.faults output.new ≡ one_more (O.faults output.old)) }
-{
-    let now = clock.now().min(LAST);
-    let turn = serve_body(w, alloc, host, repo, draw, shared, now, &body.kept, steps);
-    let Turn {
-        entry,
-        reply,
-        list: longer,
-    } = turn;
-    let _ = trace.entries.push(entry);
-    grow(&mut trace.list, longer);
-    put_frame(output, &reply)
-}
-
 // Room for one more entry, and for its steps.
 fn reserve(alloc: Global, entries: &mut Vec<Entry>) -> Result<StepList, Memory>
     ensures entries { entries.new.items ≡ entries.old.items }
@@ -280,6 +203,150 @@ fn unread(why: Unread) -> Halt
             bad: Some(bad),
         },
         Unread::Failed => ended(Status::ReadFault),
+    }
+}
+
+impl<W, H: Host<W>, R: Repo<W>, D: Draw, C: Clock> Serving<'_, '_, '_, '_, '_, W, H, R, D, C> {
+    // Serves the request of a body at the moment, in ticks; a body that isn't kept finds no memory.
+    fn serve_body(
+        &mut self,
+        shared: &Shared<'_>,
+        now: u64,
+        body: &Option<Vec<u8>>,
+        steps: StepList,
+    ) -> Turn
+        requires moment { now ≤ LAST }
+        requires body { IfSome body.now (λ bytes. length bytes.items ≤ MAX_BODY) }
+        requires free { (H.state self.old.host.now).held ≡ false }
+        requires room { steps ≡ [] }
+        ensures turn { (bytes : List ℕ) → IsKept body.now bytes → IsTurn shared.now.app.now bytes now
+            result
+            (state (H.state self.old.host.now) (R.store self.old.repo.now)
+            (D.draws self.old.draw.now) None)
+            (state (H.state self.new.host.now) (R.store self.new.repo.now)
+            (D.draws self.new.draw.now) None) }
+        ensures free { (H.state self.new.host.now).held ≡ false }
+        ensures clock { self.new.clock.now ≡ self.old.clock.now }
+        ensures loans { SameServing self.old self.new }
+    {
+        let alloc = self.alloc;
+        let seen = self.host.own().len();
+        match body {
+            Some(body) => {
+                let request = RequestView::read(body.as_slice());
+                let need = need_of(request);
+                let mut steps = steps;
+                let mut lent = Lent {
+                    w: &mut *self.w,
+                    alloc,
+                    host: &mut *self.host,
+                    repo: &mut *self.repo,
+                    draw: &mut *self.draw,
+                    steps: &mut steps,
+                };
+                let (answered, drawn) = answer_told(&mut lent, shared, now, request);
+                turn_of(answered, now, need, seen, steps, drawn)
+            }
+            None => turn_of(Err(Memory), now, 0, seen, steps, Drawn::none()),
+        }
+    }
+
+    // Serves the request of a body, keeps its entry and its list, and writes its reply.
+    fn serve_frame<O: Sink>(
+        &mut self,
+        shared: &Shared<'_>,
+        output: &mut O,
+        body: &Body,
+        steps: StepList,
+        trace: &mut TraceSoFar,
+    ) -> Result<(), Failed>
+        requires free { (H.state self.old.host.now).held ≡ false }
+        requires body { IfSome body.now.kept (λ bytes. length bytes.items ≤ MAX_BODY) }
+        requires steps { steps ≡ [] }
+        requires room { vec_len trace.old.entries < vec_capacity trace.old.entries }
+        ensures ok { OnOk result ((bytes : List ℕ) → Reads body.now bytes
+            → OneServed shared.now.app.now Writes bytes
+            (outside None (O.written output.old)
+            (state_of H.state R.store D.draws C.moments self.old) trace.old.entries.items
+            trace.old.list)
+            (outside None (O.written output.new)
+            (state_of H.state R.store D.draws C.moments self.new) trace.new.entries.items
+            trace.new.list)) }
+        ensures err { OnErr result ((bytes : List ℕ) → Reads body.now bytes
+            → OneServed shared.now.app.now WritesFront bytes
+            (outside None (O.written output.old)
+            (state_of H.state R.store D.draws C.moments self.old) trace.old.entries.items
+            trace.old.list)
+            (outside None (O.written output.new)
+            (state_of H.state R.store D.draws C.moments self.new) trace.new.entries.items
+            trace.new.list)) }
+        ensures free { (H.state self.new.host.now).held ≡ false }
+        ensures no_fault { OnOk result (O.faults output.new ≡ O.faults output.old) }
+        ensures fault { OnErr result (O.faults output.new ≡ one_more (O.faults output.old)) }
+        ensures loans { SameServing self.old self.new }
+    {
+        let now = self.clock.now().min(LAST);
+        let turn = self.serve_body(shared, now, &body.kept, steps);
+        let Turn {
+            entry,
+            reply,
+            list: longer,
+        } = turn;
+        let _ = trace.entries.push(entry);
+        grow(&mut trace.list, longer);
+        put_frame(output, &reply)
+    }
+
+    // Reads one frame, serves its request, and writes its reply. Answers how many bytes the frame had.
+    fn serve<I: Source, O: Sink>(
+        &mut self,
+        shared: &Shared<'_>,
+        input: &mut I,
+        output: &mut O,
+        trace: &mut TraceSoFar,
+    ) -> Result<u64, Halt>
+        requires free { (H.state self.old.host.now).held ≡ false }
+        ensures ok { IfOk result (OneMore shared.now.app.now Writes
+            (outside (I.left input.old) (O.written output.old)
+            (state_of H.state R.store D.draws C.moments self.old) trace.old.entries.items
+            trace.old.list)
+            (outside (I.left input.new) (O.written output.new)
+            (state_of H.state R.store D.draws C.moments self.new) trace.new.entries.items
+            trace.new.list)) }
+        ensures err { IfErr result (λ halt. EndsAt shared.now.app.now halt.status halt.bad
+            (outside (I.left input.old) (O.written output.old)
+            (state_of H.state R.store D.draws C.moments self.old) trace.old.entries.items
+            trace.old.list)
+            (outside (I.left input.new) (O.written output.new)
+            (state_of H.state R.store D.draws C.moments self.new) trace.new.entries.items
+            trace.new.list)) }
+        ensures free { (H.state self.new.host.now).held ≡ false }
+        ensures read_fault { IfErr result (λ halt. halt.status ≡ ReadFault
+            → I.faults input.new ≡ one_more (I.faults input.old)) }
+        ensures no_read_fault { MatchResult result
+            (λ _. I.faults input.new ≡ I.faults input.old)
+            (λ halt. halt.status ≢ ReadFault → I.faults input.new ≡ I.faults input.old) }
+        ensures write_fault { IfErr result (λ halt. halt.status ≡ WriteFault
+            → O.faults output.new ≡ one_more (O.faults output.old)) }
+        ensures no_write_fault { MatchResult result
+            (λ _. O.faults output.new ≡ O.faults output.old)
+            (λ halt. halt.status ≢ WriteFault → O.faults output.new ≡ O.faults output.old) }
+        ensures loans { SameServing self.old self.new }
+    {
+        let alloc = self.alloc;
+        let steps = match reserve(alloc, &mut trace.entries) {
+            Ok(steps) => steps,
+            Err(_) => return Err(ended(Status::NoMemory)),
+        };
+        let body = match read_frame(alloc, input) {
+            Ok(Frame::Whole(body)) => body,
+            Ok(Frame::End) => return Err(ended(Status::Done)),
+            Err(why) => return Err(unread(why)),
+        };
+        match self.serve_frame(shared, output, &body, steps, trace) {
+            Ok(()) => Ok(4 + u64::from(body.len)),
+            Err(_) => Err(ended(Status::WriteFault)),
+        }
     }
 }
 
@@ -317,19 +384,13 @@ pub(crate) fn serve_one<W, H: Host<W>, R: Repo<W>, D: Draw, C: Clock, I: Source,
     ensures no_write_fault { MatchResult result (λ _. O.faults output.new ≡ O.faults output.old)
         (λ halt. halt.status ≢ WriteFault → O.faults output.new ≡ O.faults output.old) }
 {
-    let steps = match reserve(alloc, &mut trace.entries) {
-        Ok(steps) => steps,
-        Err(_) => return Err(ended(Status::NoMemory)),
+    let mut serving = Serving {
+        w,
+        alloc,
+        host,
+        repo,
+        draw,
+        clock,
     };
-    let body = match read_frame(alloc, input) {
-        Ok(Frame::Whole(body)) => body,
-        Ok(Frame::End) => return Err(ended(Status::Done)),
-        Err(why) => return Err(unread(why)),
-    };
-    match serve_frame(
-        w, alloc, host, repo, draw, shared, clock, output, &body, steps, trace,
-    ) {
-        Ok(()) => Ok(4 + u64::from(body.len)),
-        Err(_) => Err(ended(Status::WriteFault)),
-    }
+    serving.serve(shared, input, output, trace)
 }

@@ -1,16 +1,18 @@
 use Rattle.std.proofs.Common.{◌≡◌, ◌∷◌, [], ◌++◌, rules}
 use Rattle.dp_base.specs.Transfer.{Writes, WritesFront}
 use Rattle.dp_session.proofs.Turns.{served_one, done, failed}
-use Rattle.dp_session.proofs.serving.serve_frame.Goals as goal
+use Rattle.dp_session.proofs.serving.Serving.serve_frame.Goals as goal
 
 pub returns-clause-ok : goal.returns-clause-ok
 returns-clause-ok g c =
     let added : c.push.new.self.items ≡ c.args.trace.now.entries.items ++ c.serve_body-turn.result.entry ∷ [] = search rules in
+    let shown = rw (← c.serve_body-turn.ensures.clock) at c.now.ensures in
     done c.put_frame.result c.put_frame.ensures.ok (λ written. λ bytes reads.
-    served_one _ Writes bytes _ _ _ _ _ _ _ _ c.now.result c.min-now.result c.serve_body-turn.result _ _ _ _ _ _ c.now.ensures c.min-now.ensures (c.serve_body-turn.ensures.turn bytes reads.1) added c.grow.ensures written)
+    served_one _ Writes bytes _ _ _ _ _ _ _ _ c.now.result c.min-now.result c.serve_body-turn.result _ _ _ _ _ _ shown c.min-now.ensures (c.serve_body-turn.ensures.turn bytes reads.1) added c.grow.ensures written)
 
 pub returns-clause-err : goal.returns-clause-err
 returns-clause-err g c =
     let added : c.push.new.self.items ≡ c.args.trace.now.entries.items ++ c.serve_body-turn.result.entry ∷ [] = search rules in
+    let shown = rw (← c.serve_body-turn.ensures.clock) at c.now.ensures in
     failed c.put_frame.result c.put_frame.ensures.err (λ written. λ bytes reads.
-    served_one _ WritesFront bytes _ _ _ _ _ _ _ _ c.now.result c.min-now.result c.serve_body-turn.result _ _ _ _ _ _ c.now.ensures c.min-now.ensures (c.serve_body-turn.ensures.turn bytes reads.1) added c.grow.ensures written)
+    served_one _ WritesFront bytes _ _ _ _ _ _ _ _ c.now.result c.min-now.result c.serve_body-turn.result _ _ _ _ _ _ shown c.min-now.ensures (c.serve_body-turn.ensures.turn bytes reads.1) added c.grow.ensures written)

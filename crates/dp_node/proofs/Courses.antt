@@ -1,15 +1,14 @@
 -- Lawful paths, joined from their parts.
-use Rattle.std.proofs.Common.{◌≡◌, ℕ, ◌<◌, ◌≤◌, Bool, true, false, ◌&&◌, ◌||◌, List, [], ◌∷◌, ◌++◌, length, refl, sym, ap, ◌∙◌, Option, Some, None, Result, Ok, Err, arith, inl, inr, IfSome, nat_le, if◌then◌else◌}
+use Rattle.std.proofs.Common.{◌≡◌, ℕ, ◌<◌, ◌≤◌, Bool, true, false, ◌&&◌, ◌||◌, List, [], ◌∷◌, ◌++◌, length, refl, sym, ap, ◌∙◌, None, Result, Ok, Err, arith, inl, inr, nat_le, if◌then◌else◌}
 use Rattle.std.proofs.lemmas.List.{take_all}
 use Rattle.std.proofs.lemmas.Bool.Decides.{nat_tests}
-use Rattle.std.proofs.lemmas.Bool.{le-leb}
 use Rattle.key_elements.specs.declared.element.Element.{Element}
 use Rattle.key_elements.specs.Lists.{Agree, IsFirstDifference}
 use Rattle.dp_node.proofs.Books.{IsFrontOf}
-use Rattle.key_ring.specs.Ring.{RingOf, ring_of, due as due_of}
+use Rattle.key_ring.specs.Ring.{RingOf, ring_of}
 use Rattle.ring_world.specs.declared.step.Step.{Step}
 use Rattle.ring_world.specs.declared.step.Step.TheVariants.{Want, Take, Busy, Give, ReadFailed, PrivateRead}
-use Rattle.ring_world.specs.Course.{Course, stepped, led, closed, IsFront, IsCut, holds}
+use Rattle.ring_world.specs.Course.{Course, stepped, closed, IsFront, IsCut, holds}
 use Rattle.ring_world.specs.Lists.{longer}
 use Rattle.ring_world.specs.Flight.{Refusal, StoreFault, Shorter, Forked, Memory, Sight, sight_steps, Plain, Keyed, Filled, Shrunk, NoRead, ShortRead, NoDraw, NoKeyDraw, NoAppend, ShortAppend, Flown, Broken, whole, cut, FlightGives}
 use Rattle.ring_world.specs.Path.{Call, target, is_enough_for, is_enough, base, Sees, Wants, Turn, Blind, Rests, Parts, Flies, Path, Unseen, AtOnce, Stale, Alone, Turned, AloneFailed, AloneShort, Apart, sight_course, after_sight, turn_course, path_course, TurnGives, turned, turn_stopped, PathGives, went, stopped}

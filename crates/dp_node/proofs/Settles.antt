@@ -1,5 +1,5 @@
 -- The second try, joined from its parts.
-use Rattle.std.proofs.Common.{◌≡◌, ℕ, ◌+◌, Bool, true, false, ◌&&◌, List, [], ◌∷◌, refl, sym, ap, ◌∙◌, Option, Result, Err, IfSome, subst, arith}
+use Rattle.std.proofs.Common.{◌≡◌, ℕ, ◌+◌, Bool, true, false, ◌&&◌, List, [], ◌∷◌, refl, sym, ap, ◌∙◌, Option, Result, Err, subst, arith}
 use Rattle.std.specs.Prelude.{not, nat_lt}
 use Rattle.key_elements.specs.declared.element.Element.{Element}
 use Rattle.key_elements.specs.Lists.{Agree, IsFirstDifference}
@@ -8,7 +8,7 @@ use Rattle.ring_world.specs.declared.step.Step.{Step}
 use Rattle.ring_world.specs.declared.step.Step.TheVariants.{Want, Take, Give}
 use Rattle.ring_world.specs.declared.step.TheConstants.{SECOND_TRY_SPAN}
 use Rattle.ring_world.specs.Course.{Course, stepped, led, closed, holds}
-use Rattle.ring_world.specs.Flight.{Refusal, Forked, Memory, Sight, sight_steps, NoRead, Broken, whole, cut, FlightGives}
+use Rattle.ring_world.specs.Flight.{Refusal, Forked, Memory, Sight, sight_steps, whole, cut, FlightGives}
 use Rattle.ring_world.specs.Path.{Call, base, Sees, Wants, Blind, Parts, Flies, sight_course, after_sight, turn_course}
 use Rattle.ring_world.specs.Settle.{any_reads, lacks_named, misses, Settle, Keeps, Stays, Again, settle_course, SecondGives, flew, fly_stopped, SettleGives, settled, settle_stopped}
 use Rattle.dp_node.proofs.Fronts.{front_whole, front_led, front_closed, all_leave, all_leave-front, held_behind, free_behind}

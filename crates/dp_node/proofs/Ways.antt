@@ -13,7 +13,7 @@ use Rattle.repo_keeper.specs.Store.{Store}
 use Rattle.ring_world.specs.declared.step.Step.{Step}
 use Rattle.ring_world.specs.declared.step.Step.TheVariants.{Give, Answer}
 use Rattle.ring_world.specs.Course.{Course, idle, closed, joined, given_back, IsFront, IsCut, holds, holds_after}
-use Rattle.ring_world.specs.Flight.{Refusal, Behind, Memory, Sight, Plain, Keyed, Filled, Shrunk, NoRead, Flown, Broken}
+use Rattle.ring_world.specs.Flight.{Refusal, Behind, Memory, Sight, Plain, Keyed, Filled, Shrunk, Flown, Broken}
 use Rattle.ring_world.specs.Path.{Call, Path, Unseen, AtOnce, Stale, Alone, Turned, AloneFailed, AloneShort, Apart, Blind, Rests, Parts, Flies, IsPath, InLine, PathGives, went, stopped, path_course, path_end}
 use Rattle.ring_world.specs.Settle.{any_reads, misses, Keeps, Again, IsSettled, settle_course, SettleGives, settled, settle_stopped}
 use Rattle.ring_world.specs.Way.{Way, Comes, Fails, IsWay, InLineWay, way_course, way_end, answered, answer_steps, own_after, CallPath, complete, cut_off}

@@ -1,8 +1,7 @@
 -- How many calls of a repository have no step.
-use Rattle.std.proofs.Common.{◌≡◌, ℕ, ◌+◌, ◌-◌, ◌≤◌, List, [], ◌∷◌, ◌++◌, length, take, drop, Result, Err, Bool, true, false, if◌then◌else◌, refl, sym, ap, ◌∙◌, append_assoc, arith}
+use Rattle.std.proofs.Common.{◌≡◌, ℕ, ◌≤◌, List, [], ◌∷◌, Result, Err, Bool, true, false, if◌then◌else◌, refl, ap, arith}
 use Rattle.key_elements.specs.declared.element.Element.{Element}
 use Rattle.key_ring.specs.Ring.{RingOf}
-use Rattle.ring_world.specs.declared.step.Step.{Step}
 use Rattle.ring_world.specs.declared.step.Step.TheVariants.{Give}
 use Rattle.ring_world.specs.Course.{Course, closed, holds}
 use Rattle.ring_world.specs.Flight as flight

@@ -1,7 +1,7 @@
 -- A flight: the holder of a node's turn reads the repository, makes a key where one is due, and
 -- publishes the ring. Moments and spans are ticks, places count from 0, and bytes drawn are read
 -- high byte first.
-use Rattle.std.specs.Prelude.{◌≡◌, ℕ, ◌+◌, ◌-◌, ◌/◌, ◌%◌, ◌<◌, Bool, true, false, ◌&&◌, nat_lt, List, [], ◌∷◌, ◌++◌, length, Option, Some, None, Result, Ok, Err}
+use Rattle.std.specs.Prelude.{◌≡◌, ℕ, ◌+◌, ◌-◌, ◌/◌, ◌%◌, Bool, true, false, ◌&&◌, nat_lt, List, [], ◌∷◌, ◌++◌, length, Option, Some, None, Result, Ok, Err}
 use Rattle.std.specs.Int.{w64, from_be_bytes}
 use Rattle.dp_base.specs.Codes.{code_of}
 use Rattle.default_key.specs.declared.options.Options.{Options}

@@ -1,4 +1,4 @@
-use Rattle.std.proofs.Common.{◌∙◌, List, ℕ, length, refl, sym, ap, arith}
+use Rattle.std.proofs.Common.{List, ℕ, length, refl, ap, arith}
 use Rattle.dp_base.specs.Draws.{DrawState}
 use Rattle.dp_base.specs.Readers.{seen}
 use Rattle.dp_wire.specs.Request.{request_of}

@@ -132,6 +132,36 @@ fn set_all<W: Wait + Drop>(mut w: W, start: Start, counts: &Counts) {
     counts.over.store(1, Ordering::SeqCst);
 }
 
+// Sets 1,000 levels, looks twice after each, and counts the looks that find no memory.
+fn refusals_over<W: Wait>(w: &mut W, start: Start, viewer: &mut Viewer<Level>) -> u64 {
+    let Start { mut setter } = start;
+    let mut count = 0;
+    for metres in 1..1_001u64 {
+        if setter.set(w, Level { metres }).is_err() {
+            break;
+        }
+        for _ in 0..2u64 {
+            if viewer.look().is_err() {
+                count = u64::wrapping_add(count, 1);
+            }
+        }
+    }
+    count
+}
+
+// Where there is memory, each look finds it, whatever the number of the value.
+#[test]
+fn no_look_lacks_memory(mut rt: HostRuntime) -> Result<(), Fail> {
+    let (setter, mut viewers) = cell(rt.alloc(), Level { metres: 0 }, 1)?;
+    let Some(mut viewer) = viewers.pop() else {
+        panic!(rt; "there is a viewer")
+    };
+    let count = refusals_over(&mut rt, Start { setter }, &mut viewer);
+    let last = viewer.look()?;
+    assert_eq!(rt; (count, last.metres), (0, 1_000));
+    Ok(())
+}
+
 fn look_often(viewer: &mut Viewer<Level>, counts: &Counts) {
     let mut seen = 0;
     for _ in 0..u64::MAX {

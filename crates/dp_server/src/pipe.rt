@@ -5,6 +5,7 @@ ghost use Rattle.dp_base.specs.Counts.{one_more};
 ghost use Rattle.dp_session.specs.declared.session.TheConstants.{MAX_REQUESTS};
 ghost use Rattle.dp_session.specs.declared.status.Status.TheVariants.{BadWords, BadInput, ReadFault, WriteFault, StoreFault, DrawFault, Spent};
 ghost use Rattle.dp_session.specs.Frames.{AreWhole};
+ghost use Rattle.dp_session.specs.Session.{IsSpentEnd};
 ghost use Rattle.dp_session.specs.declared.app.TheConstants.{MAX_APP};
 ghost use Rattle.dp_server.specs.Pipe.{AreStandard, Pipes, around, status_of};
 
@@ -59,6 +60,8 @@ pub(crate) fn pipe<R: Repo<()>, D: Draw, C: Clock, I: Source, O: Sink>(
     ensures words { result.status ≢ BadWords }
     ensures few { length result.trace.entries ≤ MAX_REQUESTS }
     ensures spent { result.status ≡ Spent → length result.trace.entries ≡ MAX_REQUESTS }
+    ensures spent_end { length result.trace.entries ≡ MAX_REQUESTS → result.status ≢ WriteFault
+        → IsSpentEnd result.status }
     ensures bad { IsSome result.bad ↔ (result.status ≡ BadInput) }
     ensures whole { IfSome (I.left input.old) (λ bytes. AreWhole MAX_REQUESTS bytes
         → (result.status ≢ BadInput) × (result.status ≢ Spent)) }

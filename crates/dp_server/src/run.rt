@@ -6,6 +6,7 @@ ghost use Rattle.dp_base.specs.Transfer.{TakesAtMost, Writes, WritesFront};
 ghost use Rattle.dp_session.specs.declared.session.TheConstants.{MAX_REQUESTS};
 ghost use Rattle.dp_session.specs.declared.status.Status.TheVariants.{Done, BadWords, BadInput, ReadFault, WriteFault, StoreFault, DrawFault, NoMemory, Spent};
 ghost use Rattle.dp_session.specs.Frames.{AreWhole};
+ghost use Rattle.dp_session.specs.Session.{IsSpentEnd};
 ghost use Rattle.dp_server.specs.declared.transfer.TheConstants.{MAX_INPUT};
 ghost use Rattle.dp_server.specs.Words.{IsShow, IsPipe};
 ghost use Rattle.dp_server.specs.Commands.{IsLawful};
@@ -98,6 +99,10 @@ pub fn run<R: Repo<()>, D: Draw, C: Clock, I: Source, O: Sink>(
         → (result.status ≡ Done) ⊎ (result.status ≡ NoMemory)) }
     ensures few { length result.trace.entries ≤ MAX_REQUESTS }
     ensures spent { result.status ≡ Spent → length result.trace.entries ≡ MAX_REQUESTS }
+
+    // After the last request that may be served no more than one byte is read.
+    ensures spent_end { length result.trace.entries ≡ MAX_REQUESTS → result.status ≢ WriteFault
+        → IsSpentEnd result.status }
 
     // Where bad input is wrong is told, and nothing else is.
     ensures bad { IsSome result.bad ↔ (result.status ≡ BadInput) }

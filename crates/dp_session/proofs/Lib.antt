@@ -10,3 +10,4 @@ pub mod Whole
 pub mod Responses
 pub mod Shut
 pub mod Unsealed
+pub mod Loans

@@ -47,11 +47,6 @@ answered_turn app bytes now need seen steps drawn old new (Err w) s n l grows = 
   list = refl;
 }
 
--- the turn of a request, told of the pass, the repository, the draw and the steps that are handed back
-pub turn_back : (app bytes : List ℕ) (now : ℕ) (old : State) (turn : List Step → Turn) {steps steps' : List Step} {h h' : HostState} {s s' : Store} {d d' : DrawState} → steps' ≡ steps → h' ≡ h → s' ≡ s → d' ≡ d
-    → IsTurn app bytes now (turn steps) old (state h s d None) → IsTurn app bytes now (turn steps') old (state h' s' d' None)
-turn_back app bytes now old turn p q r t is = rw (p, q, r, t) is
-
 list_is : (u : Used) (l : Option (List Element)) (old own : List Element) → IsListOf u l own → IsListAfter u old own (list_after l old)
 list_is (used.Ring front made_at) l old own e = ap (λ (x : Option (List Element)). list_after x old) e
 list_is (used.Placed place) l old own e = ap (λ (x : Option (List Element)). list_after x old) e

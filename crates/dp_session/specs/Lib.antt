@@ -7,7 +7,7 @@ pub mod Sought
 pub mod Calls
 pub mod Frames
 pub mod Session
+pub mod Loans
 pub mod Turns
 pub mod Fresh
 pub mod Shut
-pub mod Loans

@@ -13,14 +13,14 @@ ghost use Rattle.dp_session.specs.Responding.{Responds};
 ghost use Rattle.dp_session.specs.Serving.{Served};
 ghost use Rattle.dp_session.specs.Sought.{IsSought};
 
-use crate::app::Shared;
+use crate::app::Setting;
 use crate::needs::{Sought, need_of, seek};
 use crate::opening::{opened, opened_text, opened_timed};
 use crate::placing::{place_key, place_mass_revocation, place_revocation};
 use crate::protecting::{protected, protected_text, protected_timed};
 use crate::response::{Response, bad_request, by_ring, refused};
 use dp_base::{Draw, MAX_TICKS, Memory};
-use dp_node::{At, Host, Lent, NodeError};
+use dp_node::{At, Host, HostView, Lent, NodeError};
 use dp_wire::{BadRequest, Reply, RequestView};
 use key_ring::Ring;
 use repo_keeper::Repo;
@@ -41,7 +41,7 @@ fn listed(alloc: Global, ring: &Ring) -> Result<Response, Memory>
 // The answer by a ring to a request that needs one.
 fn respond<D: Draw>(
     alloc: Global,
-    shared: &Shared<'_>,
+    setting: Setting<'_>,
     ring: &Ring,
     draw: &mut D,
     now: u64,
@@ -53,40 +53,40 @@ fn respond<D: Draw>(
     requires dates { HasBadDates (request_of view) now → ⊥ }
     requires sought { IsSought (request_of view) sought.now }
     requires kept { IfSome sought.now.payload (λ v. length v.items < 2 ^ 32) }
-    ensures { Responds shared.now.app.now now (request_of view.entry) ring.now result (D.draws draw.old)
-        (D.draws draw.new) }
+    ensures { Responds setting.entry.app.now now (request_of view.entry) ring.now result
+        (D.draws draw.old) (D.draws draw.new) }
 {
     match view {
         RequestView::Ring { .. } => listed(alloc, ring),
         RequestView::Protect { chain, plain, .. } => {
-            protected(alloc, shared, ring, draw, &chain, plain)
+            protected(alloc, setting, ring, draw, &chain, plain)
         }
         RequestView::Unprotect {
             allow_revoked,
             chain,
             payload,
             ..
-        } => opened(alloc, shared, ring, &chain, payload, allow_revoked),
+        } => opened(alloc, setting, ring, &chain, payload, allow_revoked),
         RequestView::ProtectText { chain, text, .. } => {
-            protected_text(alloc, shared, ring, draw, &chain, text)
+            protected_text(alloc, setting, ring, draw, &chain, text)
         }
         RequestView::UnprotectText {
             allow_revoked,
             chain,
             ..
-        } => opened_text(alloc, shared, ring, &chain, &sought.payload, allow_revoked),
+        } => opened_text(alloc, setting, ring, &chain, &sought.payload, allow_revoked),
         RequestView::ProtectTimed {
             chain,
             expiry,
             plain,
             ..
-        } => protected_timed(alloc, shared, ring, draw, &chain, expiry, plain),
+        } => protected_timed(alloc, setting, ring, draw, &chain, expiry, plain),
         RequestView::UnprotectTimed {
             allow_revoked,
             chain,
             payload,
             ..
-        } => opened_timed(alloc, shared, ring, &chain, payload, allow_revoked, now),
+        } => opened_timed(alloc, setting, ring, &chain, payload, allow_revoked, now),
         RequestView::Roll { .. } | RequestView::Revoke { .. } | RequestView::RevokeBefore { .. } =>
             { unreachable!() }
     }
@@ -95,7 +95,7 @@ fn respond<D: Draw>(
 // Serves a request that needs a ring.
 fn answer_by_ring<W, H: Host<W>, R: Repo<W>, D: Draw>(
     lent: &mut Lent<'_, '_, '_, '_, '_, W, H, R, D>,
-    shared: &Shared<'_>,
+    setting: Setting<'_>,
     now: u64,
     view: RequestView<'_>,
 ) -> Result<Response, Memory>
@@ -105,9 +105,10 @@ fn answer_by_ring<W, H: Host<W>, R: Repo<W>, D: Draw>(
     requires dates { HasBadDates (request_of view) now → ⊥ }
     requires free { (H.state lent.old.host.now).held ≡ false }
     requires room { lent.old.steps.now ≡ [] }
-    ensures served { (drawn : List ℕ) × Served shared.now.app.now (Ok (request_of view.entry)) now result drawn
-        (books [] (H.state lent.old.host.now) (R.store lent.old.repo.now) (D.draws lent.old.draw.now))
-        (books_of H.state R.store D.draws lent.new) }
+    ensures served { (drawn : List ℕ)
+        × Served setting.entry.app.now (Ok (request_of view.entry)) now result drawn
+        (books [] (H.state lent.old.host.now) (R.store lent.old.repo.now)
+        (D.draws lent.old.draw.now)) (books_of H.state R.store D.draws lent.new) }
     ensures free { (H.state lent.new.host.now).held ≡ false }
     ensures grows { Extends (H.state lent.new.host.now).own (H.state lent.old.host.now).own }
     ensures loans { SameLoans lent.old lent.new }
@@ -119,7 +120,7 @@ fn answer_by_ring<W, H: Host<W>, R: Repo<W>, D: Draw>(
         need: need_of(Ok(view)),
     };
     match lent.ring_for(at, sought.missing) {
-        Ok(ring) => respond(alloc, shared, &ring, lent.draw, now, view, &sought),
+        Ok(ring) => respond(alloc, setting, &ring, lent.draw, now, view, &sought),
         Err(why) => refused(alloc, why),
     }
 }
@@ -127,7 +128,7 @@ fn answer_by_ring<W, H: Host<W>, R: Repo<W>, D: Draw>(
 // Serves a request that was read.
 fn answer_view<W, H: Host<W>, R: Repo<W>, D: Draw>(
     lent: &mut Lent<'_, '_, '_, '_, '_, W, H, R, D>,
-    shared: &Shared<'_>,
+    setting: Setting<'_>,
     now: u64,
     view: RequestView<'_>,
 ) -> Result<Response, Memory>
@@ -136,9 +137,10 @@ fn answer_view<W, H: Host<W>, R: Repo<W>, D: Draw>(
     requires short { IsShort (request_of view) }
     requires free { (H.state lent.old.host.now).held ≡ false }
     requires room { lent.old.steps.now ≡ [] }
-    ensures served { (drawn : List ℕ) × Served shared.now.app.now (Ok (request_of view.entry)) now result drawn
-        (books [] (H.state lent.old.host.now) (R.store lent.old.repo.now) (D.draws lent.old.draw.now))
-        (books_of H.state R.store D.draws lent.new) }
+    ensures served { (drawn : List ℕ)
+        × Served setting.entry.app.now (Ok (request_of view.entry)) now result drawn
+        (books [] (H.state lent.old.host.now) (R.store lent.old.repo.now)
+        (D.draws lent.old.draw.now)) (books_of H.state R.store D.draws lent.new) }
     ensures free { (H.state lent.new.host.now).held ≡ false }
     ensures grows { Extends (H.state lent.new.host.now).own (H.state lent.old.host.now).own }
     ensures loans { SameLoans lent.old lent.new }
@@ -156,14 +158,14 @@ fn answer_view<W, H: Host<W>, R: Repo<W>, D: Draw>(
         RequestView::ProtectTimed { expiry, .. } if expiry > MAX_TICKS => {
             refused(lent.alloc, NodeError::BadDates)
         }
-        _ => answer_by_ring(lent, shared, now, view),
+        _ => answer_by_ring(lent, setting, now, view),
     }
 }
 
 /// Serves a request at the moment, in ticks: by a lawful path to a ring or to a place, or refuses it.
 pub(crate) fn answer<W, H: Host<W>, R: Repo<W>, D: Draw>(
     lent: &mut Lent<'_, '_, '_, '_, '_, W, H, R, D>,
-    shared: &Shared<'_>,
+    setting: Setting<'_>,
     now: u64,
     request: Result<RequestView<'_>, BadRequest>,
 ) -> Result<Response, Memory>
@@ -173,15 +175,15 @@ pub(crate) fn answer<W, H: Host<W>, R: Repo<W>, D: Draw>(
     requires free { (H.state lent.old.host.now).held ≡ false }
     requires room { lent.old.steps.now ≡ [] }
     ensures served { (drawn : List ℕ)
-        × Served shared.now.app.now (seen request_of request.entry) now result drawn
-        (books [] (H.state lent.old.host.now) (R.store lent.old.repo.now) (D.draws lent.old.draw.now))
-        (books_of H.state R.store D.draws lent.new) }
+        × Served setting.entry.app.now (seen request_of request.entry) now result drawn
+        (books [] (H.state lent.old.host.now) (R.store lent.old.repo.now)
+        (D.draws lent.old.draw.now)) (books_of H.state R.store D.draws lent.new) }
     ensures free { (H.state lent.new.host.now).held ≡ false }
     ensures grows { Extends (H.state lent.new.host.now).own (H.state lent.old.host.now).own }
     ensures loans { SameLoans lent.old lent.new }
 {
     match request {
-        Ok(view) => answer_view(lent, shared, now, view),
+        Ok(view) => answer_view(lent, setting, now, view),
         Err(why) => bad_request(lent.alloc, why),
     }
 }

@@ -85,11 +85,9 @@ pub struct Setup {
     pub app: AppName,
 }
 
-/// What the requests of a session share.
+/// What every request of a session is answered under: the application's name and the context headers.
 #[derive(Clone, Copy)]
-pub(crate) struct Shared<'a> {
-    /// The name in front of every chain.
+pub(crate) struct Setting<'a> {
     pub app: &'a AppName,
-    /// The context headers that were worked out.
     pub headers: &'a HeaderTable,
 }

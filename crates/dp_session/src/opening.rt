@@ -8,7 +8,7 @@ ghost use Rattle.dp_wire.specs.Request.{Unprotect, UnprotectText, UnprotectTimed
 ghost use Rattle.dp_session.specs.Responding.{IsUnopened, Responds};
 ghost use Rattle.dp_session.specs.Sought.{kept};
 
-use crate::app::Shared;
+use crate::app::Setting;
 use crate::response::{Response, by_ring};
 use dp_base::Memory;
 use dp_protector::{
@@ -43,19 +43,19 @@ fn unopened(alloc: Global, ring: &Ring, why: UnprotectRefused) -> Result<Respons
 /// What a payload opens to.
 pub(crate) fn opened(
     alloc: Global,
-    shared: &Shared<'_>,
+    setting: Setting<'_>,
     ring: &Ring,
     chain: &ChainView<'_>,
     payload: &[u8],
     allow_revoked: bool,
 ) -> Result<Response, Memory>
     requires { length payload.now < 2 ^ 32 }
-    ensures { (now need : ℕ) (draws : DrawState) → Responds shared.now.app.now now
+    ensures { (now need : ℕ) (draws : DrawState) → Responds setting.entry.app.now now
         (Unprotect need allow_revoked (chain_of chain.now.bytes.now) payload.now) ring.now result
         draws draws }
 {
-    let chain = chain.to_chain(alloc, shared.app.as_str())?;
-    match unprotect_with(alloc, ring, shared.headers, &chain, payload, allow_revoked) {
+    let chain = chain.to_chain(alloc, setting.app.as_str())?;
+    match unprotect_with(alloc, ring, setting.headers, &chain, payload, allow_revoked) {
         Ok(opened) => by_ring(
             alloc,
             ring,
@@ -73,7 +73,7 @@ pub(crate) fn opened(
 // What a payload opens to that a text is of.
 fn opened_as_text(
     alloc: Global,
-    shared: &Shared<'_>,
+    setting: Setting<'_>,
     ring: &Ring,
     chain: &ChainView<'_>,
     payload: &[u8],
@@ -81,13 +81,13 @@ fn opened_as_text(
 ) -> Result<Response, Memory>
     requires { length payload.now < 2 ^ 32 }
     ensures { (now need : ℕ) (text : List ℕ) (draws : DrawState)
-        → payload_of text ≡ Some payload.now → Responds shared.now.app.now now
+        → payload_of text ≡ Some payload.now → Responds setting.entry.app.now now
         (UnprotectText need allow_revoked (chain_of chain.now.bytes.now) text) ring.now result
         draws draws }
 {
-    let chain = chain.to_chain(alloc, shared.app.as_str())?;
+    let chain = chain.to_chain(alloc, setting.app.as_str())?;
     let front = ring.list().len();
-    match open_text(alloc, ring, shared.headers, &chain, payload, allow_revoked) {
+    match open_text(alloc, ring, setting.headers, &chain, payload, allow_revoked) {
         Ok(opened) => by_ring(
             alloc,
             ring,
@@ -108,7 +108,7 @@ fn opened_as_text(
 /// What a text opens to, where `payload` is the payload that it is of.
 pub(crate) fn opened_text(
     alloc: Global,
-    shared: &Shared<'_>,
+    setting: Setting<'_>,
     ring: &Ring,
     chain: &ChainView<'_>,
     payload: &Option<Vec<u8>>,
@@ -116,14 +116,14 @@ pub(crate) fn opened_text(
 ) -> Result<Response, Memory>
     requires { IfSome payload.now (λ bytes. length bytes.items < 2 ^ 32) }
     ensures { (now need : ℕ) (text : List ℕ) (draws : DrawState)
-        → payload_of text ≡ kept payload.now → Responds shared.now.app.now now
+        → payload_of text ≡ kept payload.now → Responds setting.entry.app.now now
         (UnprotectText need allow_revoked (chain_of chain.now.bytes.now) text) ring.now result
         draws draws }
 {
     match payload {
         Some(payload) => opened_as_text(
             alloc,
-            shared,
+            setting,
             ring,
             chain,
             payload.as_slice(),
@@ -139,7 +139,7 @@ pub(crate) fn opened_text(
 /// What a payload that expires opens to at the moment, in ticks.
 pub(crate) fn opened_timed(
     alloc: Global,
-    shared: &Shared<'_>,
+    setting: Setting<'_>,
     ring: &Ring,
     chain: &ChainView<'_>,
     payload: &[u8],
@@ -147,16 +147,16 @@ pub(crate) fn opened_timed(
     now: u64,
 ) -> Result<Response, Memory>
     requires { length payload.now < 2 ^ 32 }
-    ensures { (need : ℕ) (draws : DrawState) → Responds shared.now.app.now now
+    ensures { (need : ℕ) (draws : DrawState) → Responds setting.entry.app.now now
         (UnprotectTimed need allow_revoked (chain_of chain.now.bytes.now) payload.now) ring.now
         result draws draws }
 {
-    let chain = chain.to_chain(alloc, shared.app.as_str())?;
+    let chain = chain.to_chain(alloc, setting.app.as_str())?;
     let front = ring.list().len();
     match unprotect_timed(
         alloc,
         ring,
-        shared.headers,
+        setting.headers,
         &chain,
         payload,
         allow_revoked,

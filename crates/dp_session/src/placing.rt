@@ -66,16 +66,16 @@ pub(crate) fn place_key<W, H: Host<W>, R: Repo<W>, D: Draw>(
     requires room { lent.old.steps.now ≡ [] }
     ensures served { (app : List ℕ) → (drawn : List ℕ) × Served app
         (Ok (Roll activation expiration code)) now result drawn
-        (books [] (H.state lent.old.host.now) (R.store lent.old.repo.now) (D.draws lent.old.draw.now))
-        (books_of H.state R.store D.draws lent.new) }
+        (books [] (H.state lent.old.host.now) (R.store lent.old.repo.now)
+        (D.draws lent.old.draw.now)) (books_of H.state R.store D.draws lent.new) }
     ensures free { (H.state lent.new.host.now).held ≡ false }
     ensures grows { Extends (H.state lent.new.host.now).own (H.state lent.old.host.now).own }
     ensures loans { SameLoans lent.old lent.new }
 {
-    let alloc = lent.alloc;
     let Some(alg) = alg_of(code) else {
         unreachable!()
     };
+    let alloc = lent.alloc;
     match roll(
         lent.w, alloc, lent.host, lent.repo, lent.draw, now, activation, expiration, alg,
         lent.steps,
@@ -102,8 +102,8 @@ pub(crate) fn place_revocation<W, H: Host<W>, R: Repo<W>, D: Draw>(
     requires room { lent.old.steps.now ≡ [] }
     ensures served { (app : List ℕ) → (drawn : List ℕ) × Served app
         (Ok (Revoke id.0 reason.now)) now result drawn
-        (books [] (H.state lent.old.host.now) (R.store lent.old.repo.now) (D.draws lent.old.draw.now))
-        (books_of H.state R.store D.draws lent.new) }
+        (books [] (H.state lent.old.host.now) (R.store lent.old.repo.now)
+        (D.draws lent.old.draw.now)) (books_of H.state R.store D.draws lent.new) }
     ensures free { (H.state lent.new.host.now).held ≡ false }
     ensures grows { Extends (H.state lent.new.host.now).own (H.state lent.old.host.now).own }
     ensures loans { SameLoans lent.old lent.new }
@@ -133,8 +133,8 @@ pub(crate) fn place_mass_revocation<W, H: Host<W>, R: Repo<W>, D: Draw>(
     requires room { lent.old.steps.now ≡ [] }
     ensures served { (app : List ℕ) → (drawn : List ℕ) × Served app
         (Ok (RevokeBefore date reason.now)) now result drawn
-        (books [] (H.state lent.old.host.now) (R.store lent.old.repo.now) (D.draws lent.old.draw.now))
-        (books_of H.state R.store D.draws lent.new) }
+        (books [] (H.state lent.old.host.now) (R.store lent.old.repo.now)
+        (D.draws lent.old.draw.now)) (books_of H.state R.store D.draws lent.new) }
     ensures free { (H.state lent.new.host.now).held ≡ false }
     ensures grows { Extends (H.state lent.new.host.now).own (H.state lent.old.host.now).own }
     ensures loans { SameLoans lent.old lent.new }

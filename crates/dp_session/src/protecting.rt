@@ -6,7 +6,7 @@ ghost use Rattle.dp_wire.specs.Request.{Protect, ProtectText, ProtectTimed};
 ghost use Rattle.dp_base.specs.declared.ticks.TheConstants.{MAX_TICKS};
 ghost use Rattle.dp_session.specs.Responding.{IsUnmade, Responds};
 
-use crate::app::Shared;
+use crate::app::Setting;
 use crate::response::{Response, by_ring, refused};
 use dp_base::{Draw, Memory};
 use dp_node::NodeError;
@@ -31,18 +31,18 @@ fn unmade(alloc: Global, ring: &Ring, why: ProtectRefused) -> Result<Response, M
 /// The payload of bytes.
 pub(crate) fn protected<D: Draw>(
     alloc: Global,
-    shared: &Shared<'_>,
+    setting: Setting<'_>,
     ring: &Ring,
     draw: &mut D,
     chain: &ChainView<'_>,
     plain: &[u8],
 ) -> Result<Response, Memory>
-    ensures { (now need : ℕ) → Responds shared.now.app.now now
+    ensures { (now need : ℕ) → Responds setting.entry.app.now now
         (Protect need (chain_of chain.now.bytes.now) plain.now) ring.now result
         (D.draws draw.old) (D.draws draw.new) }
 {
-    let chain = chain.to_chain(alloc, shared.app.as_str())?;
-    match protect_with(alloc, ring, shared.headers, &chain, draw, plain) {
+    let chain = chain.to_chain(alloc, setting.app.as_str())?;
+    match protect_with(alloc, ring, setting.headers, &chain, draw, plain) {
         Ok(payload) => {
             let front = ring.list().len();
             let payload = payload.as_slice();
@@ -55,18 +55,18 @@ pub(crate) fn protected<D: Draw>(
 /// The payload of a text, as a text.
 pub(crate) fn protected_text<D: Draw>(
     alloc: Global,
-    shared: &Shared<'_>,
+    setting: Setting<'_>,
     ring: &Ring,
     draw: &mut D,
     chain: &ChainView<'_>,
     text: &str,
 ) -> Result<Response, Memory>
-    ensures { (now need : ℕ) → Responds shared.now.app.now now
+    ensures { (now need : ℕ) → Responds setting.entry.app.now now
         (ProtectText need (chain_of chain.now.bytes.now) text.now) ring.now result
         (D.draws draw.old) (D.draws draw.new) }
 {
-    let chain = chain.to_chain(alloc, shared.app.as_str())?;
-    match protect_text(alloc, ring, shared.headers, &chain, draw, text) {
+    let chain = chain.to_chain(alloc, setting.app.as_str())?;
+    match protect_text(alloc, ring, setting.headers, &chain, draw, text) {
         Ok(text) => {
             let front = ring.list().len();
             let text = text.as_str();
@@ -79,7 +79,7 @@ pub(crate) fn protected_text<D: Draw>(
 /// The payload of bytes that are used up to their expiry, in ticks.
 pub(crate) fn protected_timed<D: Draw>(
     alloc: Global,
-    shared: &Shared<'_>,
+    setting: Setting<'_>,
     ring: &Ring,
     draw: &mut D,
     chain: &ChainView<'_>,
@@ -87,12 +87,12 @@ pub(crate) fn protected_timed<D: Draw>(
     plain: &[u8],
 ) -> Result<Response, Memory>
     requires { expiry ≤ MAX_TICKS }
-    ensures { (now need : ℕ) → Responds shared.now.app.now now
+    ensures { (now need : ℕ) → Responds setting.entry.app.now now
         (ProtectTimed need (chain_of chain.now.bytes.now) expiry plain.now) ring.now result
         (D.draws draw.old) (D.draws draw.new) }
 {
-    let chain = chain.to_chain(alloc, shared.app.as_str())?;
-    match protect_timed(alloc, ring, shared.headers, &chain, draw, expiry, plain) {
+    let chain = chain.to_chain(alloc, setting.app.as_str())?;
+    match protect_timed(alloc, ring, setting.headers, &chain, draw, expiry, plain) {
         Ok(payload) => {
             let front = ring.list().len();
             let payload = payload.as_slice();

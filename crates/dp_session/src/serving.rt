@@ -7,25 +7,24 @@ ghost use Rattle.dp_base.specs.Readers.{seen};
 ghost use Rattle.dp_base.specs.Transfer.{Writes, WritesFront};
 ghost use Rattle.key_elements.specs.Lists.{Extends};
 ghost use Rattle.dp_node.specs.Books.{books};
-ghost use Rattle.dp_node.specs.Lent.{SameLoans, books_of};
 ghost use Rattle.dp_wire.specs.declared.frame.TheConstants.{MAX_BODY};
 ghost use Rattle.dp_wire.specs.Request.{request_of, IsRequest};
 ghost use Rattle.dp_session.specs.declared.status.Status.TheVariants.{ReadFault, WriteFault};
 ghost use Rattle.dp_session.specs.Frames.{IsKept, Reads};
 ghost use Rattle.dp_session.specs.Session.{EndsAt, OneMore, OneServed, outside};
 ghost use Rattle.dp_session.specs.Needs.{IsShort};
-ghost use Rattle.dp_session.specs.Serving.{Served, state};
-ghost use Rattle.dp_session.specs.Loans.{SameServing, state_of};
+ghost use Rattle.dp_session.specs.Loans.{SameSession, standing};
+ghost use Rattle.dp_session.specs.Serving.{Served, after, before};
 ghost use Rattle.dp_session.specs.Turns.{turn_of, reply_bytes, list_after, halt_of, IsTurn};
 
 use crate::answer::answer;
-use crate::app::Shared;
+use crate::app::Setting;
 use crate::end::BadWhy;
 use crate::needs::need_of;
 use crate::reading::{Body, Frame, Unread, read_frame};
 use crate::response::Response;
 use crate::status::Status;
-use crate::trace::{Drawn, Entry, TraceSoFar, Used};
+use crate::trace::{Drawn, Entry, Log, Used};
 use dp_base::{Clock, Draw, Failed, LAST, Memory, Sink, Source, Taped, write_all};
 use dp_node::{Host, HostView, Lent};
 use dp_wire::{BadRequest, RequestView, no_memory_frame};
@@ -57,15 +56,16 @@ pub(crate) struct Turn {
     pub list: Option<ElementList>,
 }
 
-/// What a session is lent beside its streams.
+/// What a session is lent, beside its input and its output, and what its requests are answered under.
 #[derive(Drop)]
-pub(crate) struct Serving<'w, 'h, 'r, 'd, 'c, W, H, R, D, C> {
+pub(crate) struct Session<'w, 'h, 'r, 'd, 'c, 'a, W, H, R, D, C> {
     pub w: &'w mut W,
     pub alloc: Global,
     pub host: &'h mut H,
     pub repo: &'r mut R,
     pub draw: &'d mut D,
     pub clock: &'c mut C,
+    pub setting: Setting<'a>,
 }
 
 // Serves a request over a draw that tells what it gives, and stands on the same loan afterwards.
@@ -75,10 +75,10 @@ fn answer_taped<'t, W, H: Host<W>, R: Repo<W>, D: Draw>(
     host: &mut H,
     repo: &mut R,
     draw: &mut Taped<'t, D>,
-    steps: &mut StepList,
-    shared: &Shared<'_>,
+    setting: Setting<'_>,
     now: u64,
     request: Result<RequestView<'_>, BadRequest>,
+    steps: &mut StepList,
 ) -> Result<Response, Memory>
     requires moment { now ≤ LAST }
     requires request { IfOk request (λ view. IsRequest (request_of view)) }
@@ -87,7 +87,7 @@ fn answer_taped<'t, W, H: Host<W>, R: Repo<W>, D: Draw>(
     requires room { steps.old ≡ [] }
     ensures loan { draw.new.draw.ghost_name ≡ draw.old.draw.ghost_name }
     ensures served { (drawn : List ℕ)
-        × Served shared.now.app.now (seen request_of request.entry) now result drawn
+        × Served setting.entry.app.now (seen request_of request.entry) now result drawn
         (books [] (H.state host.old) (R.store repo.old) (⟦<Taped<'t, D> as Draw>⟧.draws draw.old))
         (books steps.new (H.state host.new) (R.store repo.new)
         (⟦<Taped<'t, D> as Draw>⟧.draws draw.new)) }
@@ -102,35 +102,7 @@ fn answer_taped<'t, W, H: Host<W>, R: Repo<W>, D: Draw>(
         draw,
         steps,
     };
-    answer(&mut lent, shared, now, request)
-}
-
-// Serves a request, and tells the bytes that it drew.
-fn answer_told<W, H: Host<W>, R: Repo<W>, D: Draw>(
-    lent: &mut Lent<'_, '_, '_, '_, '_, W, H, R, D>,
-    shared: &Shared<'_>,
-    now: u64,
-    request: Result<RequestView<'_>, BadRequest>,
-) -> (Result<Response, Memory>, Drawn)
-    requires moment { now ≤ LAST }
-    requires request { IfOk request (λ view. IsRequest (request_of view)) }
-    requires short { IfOk request (λ view. IsShort (request_of view)) }
-    requires free { (H.state lent.old.host.now).held ≡ false }
-    requires room { lent.old.steps.now ≡ [] }
-    ensures served { Served shared.now.app.now (seen request_of request.entry) now result.0 result.1
-        (books [] (H.state lent.old.host.now) (R.store lent.old.repo.now)
-        (D.draws lent.old.draw.now)) (books_of H.state R.store D.draws lent.new) }
-    ensures free { (H.state lent.new.host.now).held ≡ false }
-    ensures grows { Extends (H.state lent.new.host.now).own (H.state lent.old.host.now).own }
-    ensures loans { SameLoans lent.old lent.new }
-{
-    let alloc = lent.alloc;
-    let mut taped = Taped::new(lent.draw);
-    let answered = answer_taped(
-        lent.w, alloc, lent.host, lent.repo, &mut taped, lent.steps, shared, now, request,
-    );
-    let drawn = Drawn::of(taped.bytes());
-    (answered, drawn)
+    answer(&mut lent, setting, now, request)
 }
 
 // The turn of a request that was answered, or found no memory.
@@ -206,45 +178,58 @@ fn unread(why: Unread) -> Halt
     }
 }
 
-impl<W, H: Host<W>, R: Repo<W>, D: Draw, C: Clock> Serving<'_, '_, '_, '_, '_, W, H, R, D, C> {
-    // Serves the request of a body at the moment, in ticks; a body that isn't kept finds no memory.
-    fn serve_body(
+impl<W, H: Host<W>, R: Repo<W>, D: Draw, C: Clock> Session<'_, '_, '_, '_, '_, '_, W, H, R, D, C> {
+    // Serves a request, and tells the bytes that it drew.
+    fn answer_told(
         &mut self,
-        shared: &Shared<'_>,
         now: u64,
-        body: &Option<Vec<u8>>,
-        steps: StepList,
-    ) -> Turn
+        request: Result<RequestView<'_>, BadRequest>,
+        steps: &mut StepList,
+    ) -> (Result<Response, Memory>, Drawn)
+        requires moment { now ≤ LAST }
+        requires request { IfOk request (λ view. IsRequest (request_of view)) }
+        requires short { IfOk request (λ view. IsShort (request_of view)) }
+        requires free { (H.state self.old.host.now).held ≡ false }
+        requires room { steps.old ≡ [] }
+        ensures served { Served self.old.setting.app.now (seen request_of request.entry) now
+            result.0 result.1 (before (standing H.state R.store D.draws None self.old))
+            (after steps.new (standing H.state R.store D.draws None self.new)) }
+        ensures free { (H.state self.new.host.now).held ≡ false }
+        ensures grows { Extends (H.state self.new.host.now).own (H.state self.old.host.now).own }
+        ensures clock { self.new.clock.now ≡ self.old.clock.now }
+        ensures loans { SameSession self.old self.new }
+    {
+        let alloc = self.alloc;
+        let setting = self.setting;
+        let mut taped = Taped::new(self.draw);
+        let answered = answer_taped(
+            self.w, alloc, self.host, self.repo, &mut taped, setting, now, request, steps,
+        );
+        let drawn = Drawn::of(taped.bytes());
+        (answered, drawn)
+    }
+
+    // Serves the request of a body at the moment, in ticks; a body that isn't kept finds no memory.
+    fn serve_body(&mut self, now: u64, body: &Option<Vec<u8>>, steps: StepList) -> Turn
         requires moment { now ≤ LAST }
         requires body { IfSome body.now (λ bytes. length bytes.items ≤ MAX_BODY) }
         requires free { (H.state self.old.host.now).held ≡ false }
         requires room { steps ≡ [] }
-        ensures turn { (bytes : List ℕ) → IsKept body.now bytes → IsTurn shared.now.app.now bytes now
-            result
-            (state (H.state self.old.host.now) (R.store self.old.repo.now)
-            (D.draws self.old.draw.now) None)
-            (state (H.state self.new.host.now) (R.store self.new.repo.now)
-            (D.draws self.new.draw.now) None) }
+        ensures turn { (bytes : List ℕ) → IsKept body.now bytes → IsTurn
+            self.old.setting.app.now bytes now result
+            (standing H.state R.store D.draws None self.old)
+            (standing H.state R.store D.draws None self.new) }
         ensures free { (H.state self.new.host.now).held ≡ false }
         ensures clock { self.new.clock.now ≡ self.old.clock.now }
-        ensures loans { SameServing self.old self.new }
+        ensures loans { SameSession self.old self.new }
     {
-        let alloc = self.alloc;
         let seen = self.host.own().len();
         match body {
             Some(body) => {
                 let request = RequestView::read(body.as_slice());
                 let need = need_of(request);
                 let mut steps = steps;
-                let mut lent = Lent {
-                    w: &mut *self.w,
-                    alloc,
-                    host: &mut *self.host,
-                    repo: &mut *self.repo,
-                    draw: &mut *self.draw,
-                    steps: &mut steps,
-                };
-                let (answered, drawn) = answer_told(&mut lent, shared, now, request);
+                let (answered, drawn) = self.answer_told(now, request, &mut steps);
                 turn_of(answered, now, need, seen, steps, drawn)
             }
             None => turn_of(Err(Memory), now, 0, seen, steps, Drawn::none()),
@@ -254,87 +239,75 @@ impl<W, H: Host<W>, R: Repo<W>, D: Draw, C: Clock> Serving<'_, '_, '_, '_, '_, W
     // Serves the request of a body, keeps its entry and its list, and writes its reply.
     fn serve_frame<O: Sink>(
         &mut self,
-        shared: &Shared<'_>,
         output: &mut O,
         body: &Body,
         steps: StepList,
-        trace: &mut TraceSoFar,
+        log: &mut Log,
     ) -> Result<(), Failed>
         requires free { (H.state self.old.host.now).held ≡ false }
         requires body { IfSome body.now.kept (λ bytes. length bytes.items ≤ MAX_BODY) }
         requires steps { steps ≡ [] }
-        requires room { vec_len trace.old.entries < vec_capacity trace.old.entries }
+        requires room { vec_len log.old.entries < vec_capacity log.old.entries }
         ensures ok { OnOk result ((bytes : List ℕ) → Reads body.now bytes
-            → OneServed shared.now.app.now Writes bytes
-            (outside None (O.written output.old)
-            (state_of H.state R.store D.draws C.moments self.old) trace.old.entries.items
-            trace.old.list)
-            (outside None (O.written output.new)
-            (state_of H.state R.store D.draws C.moments self.new) trace.new.entries.items
-            trace.new.list)) }
+            → OneServed self.old.setting.app.now Writes bytes
+            (outside None (O.written output.old) (standing H.state R.store D.draws
+            (C.moments self.old.clock.now) self.old) log.old.entries.items log.old.list)
+            (outside None (O.written output.new) (standing H.state R.store D.draws
+            (C.moments self.new.clock.now) self.new) log.new.entries.items log.new.list)) }
         ensures err { OnErr result ((bytes : List ℕ) → Reads body.now bytes
-            → OneServed shared.now.app.now WritesFront bytes
-            (outside None (O.written output.old)
-            (state_of H.state R.store D.draws C.moments self.old) trace.old.entries.items
-            trace.old.list)
-            (outside None (O.written output.new)
-            (state_of H.state R.store D.draws C.moments self.new) trace.new.entries.items
-            trace.new.list)) }
+            → OneServed self.old.setting.app.now WritesFront bytes
+            (outside None (O.written output.old) (standing H.state R.store D.draws
+            (C.moments self.old.clock.now) self.old) log.old.entries.items log.old.list)
+            (outside None (O.written output.new) (standing H.state R.store D.draws
+            (C.moments self.new.clock.now) self.new) log.new.entries.items log.new.list)) }
         ensures free { (H.state self.new.host.now).held ≡ false }
         ensures no_fault { OnOk result (O.faults output.new ≡ O.faults output.old) }
         ensures fault { OnErr result (O.faults output.new ≡ one_more (O.faults output.old)) }
-        ensures loans { SameServing self.old self.new }
+        ensures loans { SameSession self.old self.new }
     {
         let now = self.clock.now().min(LAST);
-        let turn = self.serve_body(shared, now, &body.kept, steps);
+        let turn = self.serve_body(now, &body.kept, steps);
         let Turn {
             entry,
             reply,
             list: longer,
         } = turn;
-        let _ = trace.entries.push(entry);
-        grow(&mut trace.list, longer);
+        let _ = log.entries.push(entry);
+        grow(&mut log.list, longer);
         put_frame(output, &reply)
     }
 
-    // Reads one frame, serves its request, and writes its reply. Answers how many bytes the frame had.
-    fn serve<I: Source, O: Sink>(
+    /// Reads a frame, serves its request, writes its reply, and answers how many bytes the frame had.
+    pub(crate) fn serve_one<I: Source, O: Sink>(
         &mut self,
-        shared: &Shared<'_>,
         input: &mut I,
         output: &mut O,
-        trace: &mut TraceSoFar,
+        log: &mut Log,
     ) -> Result<u64, Halt>
         requires free { (H.state self.old.host.now).held ≡ false }
-        ensures ok { IfOk result (OneMore shared.now.app.now Writes
-            (outside (I.left input.old) (O.written output.old)
-            (state_of H.state R.store D.draws C.moments self.old) trace.old.entries.items
-            trace.old.list)
-            (outside (I.left input.new) (O.written output.new)
-            (state_of H.state R.store D.draws C.moments self.new) trace.new.entries.items
-            trace.new.list)) }
-        ensures err { IfErr result (λ halt. EndsAt shared.now.app.now halt.status halt.bad
-            (outside (I.left input.old) (O.written output.old)
-            (state_of H.state R.store D.draws C.moments self.old) trace.old.entries.items
-            trace.old.list)
-            (outside (I.left input.new) (O.written output.new)
-            (state_of H.state R.store D.draws C.moments self.new) trace.new.entries.items
-            trace.new.list)) }
+        ensures ok { IfOk result (OneMore self.old.setting.app.now Writes
+            (outside (I.left input.old) (O.written output.old) (standing H.state R.store D.draws
+            (C.moments self.old.clock.now) self.old) log.old.entries.items log.old.list)
+            (outside (I.left input.new) (O.written output.new) (standing H.state R.store D.draws
+            (C.moments self.new.clock.now) self.new) log.new.entries.items log.new.list)) }
+        ensures err { IfErr result (λ halt. EndsAt self.old.setting.app.now halt.status halt.bad
+            (outside (I.left input.old) (O.written output.old) (standing H.state R.store D.draws
+            (C.moments self.old.clock.now) self.old) log.old.entries.items log.old.list)
+            (outside (I.left input.new) (O.written output.new) (standing H.state R.store D.draws
+            (C.moments self.new.clock.now) self.new) log.new.entries.items log.new.list)) }
         ensures free { (H.state self.new.host.now).held ≡ false }
         ensures read_fault { IfErr result (λ halt. halt.status ≡ ReadFault
             → I.faults input.new ≡ one_more (I.faults input.old)) }
-        ensures no_read_fault { MatchResult result
-            (λ _. I.faults input.new ≡ I.faults input.old)
+        ensures no_read_fault { MatchResult result (λ _. I.faults input.new ≡ I.faults input.old)
             (λ halt. halt.status ≢ ReadFault → I.faults input.new ≡ I.faults input.old) }
         ensures write_fault { IfErr result (λ halt. halt.status ≡ WriteFault
             → O.faults output.new ≡ one_more (O.faults output.old)) }
-        ensures no_write_fault { MatchResult result
-            (λ _. O.faults output.new ≡ O.faults output.old)
+        ensures no_write_fault { MatchResult result (λ _. O.faults output.new ≡ O.faults output.old)
             (λ halt. halt.status ≢ WriteFault → O.faults output.new ≡ O.faults output.old) }
-        ensures loans { SameServing self.old self.new }
+        ensures loans { SameSession self.old self.new }
     {
         let alloc = self.alloc;
-        let steps = match reserve(alloc, &mut trace.entries) {
+        let steps = match reserve(alloc, &mut log.entries) {
             Ok(steps) => steps,
             Err(_) => return Err(ended(Status::NoMemory)),
         };
@@ -343,54 +316,9 @@ impl<W, H: Host<W>, R: Repo<W>, D: Draw, C: Clock> Serving<'_, '_, '_, '_, '_, W
             Ok(Frame::End) => return Err(ended(Status::Done)),
             Err(why) => return Err(unread(why)),
         };
-        match self.serve_frame(shared, output, &body, steps, trace) {
+        match self.serve_frame(output, &body, steps, log) {
             Ok(()) => Ok(4 + u64::from(body.len)),
             Err(_) => Err(ended(Status::WriteFault)),
         }
     }
-}
-
-/// Reads one frame, serves its request, and writes its reply. Answers how many bytes the frame had.
-pub(crate) fn serve_one<W, H: Host<W>, R: Repo<W>, D: Draw, C: Clock, I: Source, O: Sink>(
-    w: &mut W,
-    alloc: Global,
-    host: &mut H,
-    repo: &mut R,
-    draw: &mut D,
-    shared: &Shared<'_>,
-    clock: &mut C,
-    input: &mut I,
-    output: &mut O,
-    trace: &mut TraceSoFar,
-) -> Result<u64, Halt>
-    requires free { (H.state host.old).held ≡ false }
-    ensures ok { IfOk result (OneMore shared.now.app.now Writes
-        (outside (I.left input.old) (O.written output.old) (state (H.state host.old)
-        (R.store repo.old) (D.draws draw.old) (C.moments clock.old)) trace.old.entries.items trace.old.list)
-        (outside (I.left input.new) (O.written output.new) (state (H.state host.new)
-        (R.store repo.new) (D.draws draw.new) (C.moments clock.new)) trace.new.entries.items trace.new.list)) }
-    ensures err { IfErr result (λ halt. EndsAt shared.now.app.now halt.status halt.bad
-        (outside (I.left input.old) (O.written output.old) (state (H.state host.old)
-        (R.store repo.old) (D.draws draw.old) (C.moments clock.old)) trace.old.entries.items trace.old.list)
-        (outside (I.left input.new) (O.written output.new) (state (H.state host.new)
-        (R.store repo.new) (D.draws draw.new) (C.moments clock.new)) trace.new.entries.items trace.new.list)) }
-    ensures free { (H.state host.new).held ≡ false }
-    ensures read_fault { IfErr result (λ halt. halt.status ≡ ReadFault
-        → I.faults input.new ≡ one_more (I.faults input.old)) }
-    ensures no_read_fault { MatchResult result (λ _. I.faults input.new ≡ I.faults input.old)
-        (λ halt. halt.status ≢ ReadFault → I.faults input.new ≡ I.faults input.old) }
-    ensures write_fault { IfErr result (λ halt. halt.status ≡ WriteFault
-        → O.faults output.new ≡ one_more (O.faults output.old)) }
-    ensures no_write_fault { MatchResult result (λ _. O.faults output.new ≡ O.faults output.old)
-        (λ halt. halt.status ≢ WriteFault → O.faults output.new ≡ O.faults output.old) }
-{
-    let mut serving = Serving {
-        w,
-        alloc,
-        host,
-        repo,
-        draw,
-        clock,
-    };
-    serving.serve(shared, input, output, trace)
 }

@@ -9,15 +9,14 @@ ghost use Rattle.dp_session.specs.Shut.{AreShut};
 ghost use Rattle.dp_session.specs.Serving.{state};
 ghost use Rattle.dp_session.specs.Session.{EndsInput, IsSpentEnd, IsSession, bad_at, outside};
 
-use crate::app::{Setup, Shared};
+use crate::app::{Setting, Setup};
 use crate::end::{BadPlace, SessionEnd};
-use crate::serving::{Halt, serve_one};
+use crate::serving::{Halt, Session};
 use crate::status::Status;
-use crate::trace::TraceSoFar;
+use crate::trace::Log;
 use dp_base::{Clock, Draw, Sink, Source, read_full};
 use dp_encryptor::HeaderTable;
 use dp_node::{Host, HostView};
-use key_elements::ElementList;
 use repo_keeper::Repo;
 use std::alloc::Global;
 
@@ -113,25 +112,29 @@ pub fn serve_session<W, H: Host<W>, R: Repo<W>, D: Draw, C: Clock, I: Source, O:
     ensures no_write_fault { result.status ≢ WriteFault
         → O.faults output.new ≡ O.faults output.old }
 {
-    let shared = Shared {
+    let setting = Setting {
         app: &setup.app,
         headers,
     };
-    let mut trace = TraceSoFar {
-        entries: Vec::new(alloc),
-        list: ElementList::empty(),
-    };
+    let mut log = Log::new(alloc);
     let mut place = 0;
     'requests: for _ in 0..MAX_REQUESTS {
-        match serve_one(
-            w, alloc, host, repo, draw, &shared, clock, input, output, &mut trace,
-        ) {
+        let mut session = Session {
+            w: &mut *w,
+            alloc,
+            host: &mut *host,
+            repo: &mut *repo,
+            draw: &mut *draw,
+            clock: &mut *clock,
+            setting,
+        };
+        match session.serve_one(input, output, &mut log) {
             Ok(len) => place += len,
             Err(halt) => {
                 return SessionEnd {
                     status: halt.status,
                     bad: bad_place(halt, place),
-                    trace: trace.end(),
+                    trace: log.into_trace(),
                 };
             }
         }
@@ -139,6 +142,6 @@ pub fn serve_session<W, H: Host<W>, R: Repo<W>, D: Draw, C: Clock, I: Source, O:
     SessionEnd {
         status: end_of_spent(input),
         bad: None,
-        trace: trace.end(),
+        trace: log.into_trace(),
     }
 }

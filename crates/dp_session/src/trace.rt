@@ -147,20 +147,31 @@ impl Trace {
     }
 }
 
-/// What the requests so far used: their entries, and the longest list.
+/// What a session keeps as it goes on, which becomes its trace.
 #[derive(Drop)]
-pub(crate) struct TraceSoFar {
+pub(crate) struct Log {
     pub entries: Vec<Entry>,
     pub list: ElementList,
 }
 
-impl TraceSoFar {
-    /// The trace, whole.
-    pub fn end(self) -> Trace
+impl Log {
+    /// Nothing yet.
+    pub(crate) fn new(alloc: Global) -> Log
+        ensures entries { result.entries.items ≡ [] }
+        ensures list { result.list ≡ [] }
+    {
+        Log {
+            entries: Vec::new(alloc),
+            list: ElementList::empty(),
+        }
+    }
+
+    /// The trace.
+    pub(crate) fn into_trace(self) -> Trace
         ensures list { result.list ≡ self.list }
         ensures entries { result.entries ≡ self.entries.items }
     {
-        let TraceSoFar { entries, list } = self;
+        let Log { entries, list } = self;
         Trace {
             list,
             entries: Entries::of(entries),

@@ -8,7 +8,7 @@ pub opened_timed-requires : goal.opened_timed-requires
 opened_timed-requires g c = rw c.in-UnprotectTimed.is at c.requires.short
 
 pub returns-in-Ring : goal.returns-in-Ring
-returns-in-Ring g c = rw c.in-Ring.is (c.listed.ensures c.args.shared.now.app.now c.args.now c.in-Ring.need (g.D.Draw.draws c.args.draw.now))
+returns-in-Ring g c = rw c.in-Ring.is (c.listed.ensures c.args.setting.app.now c.args.now c.in-Ring.need (g.D.Draw.draws c.args.draw.now))
 
 pub returns-in-Protect : goal.returns-in-Protect
 returns-in-Protect g c = rw c.in-Protect.is (c.protected.ensures c.args.now c.in-Protect.need)

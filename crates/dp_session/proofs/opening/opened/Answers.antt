@@ -18,7 +18,7 @@ returns-in-Ok c = λ now need draws.
     let same = rw c.as_str.ensures.value at c.in_ok-chain.ensures.value in
     let o = opening c.in-Ok.opened in
     let due = ap (λ (ch : List (List ℕ)). opened_reply (length ring.list) (opened ring ch c.args.payload.now c.args.allow_revoked)) (sym same) ∙ ap (opened_reply (length ring.list)) c.in-Ok.ensures in
-    dry_answer c.args.shared.now.app.now now p ring refl c.by_ring.result draws _ due
+    dry_answer c.args.setting.app.now now p ring refl c.by_ring.result draws _ due
     (by_plain ring c.by_ring.result c.len.result c.as_slice.result o.plain (c.len.ensures.value ∙ ap length c.list.ensures) c.as_slice.ensures.value o.revoked o.default_changed c.by_ring.ensures)
 
 pub returns : goal.returns
@@ -27,8 +27,8 @@ returns c = λ now need draws.
     let p = Unprotect need c.args.allow_revoked (chain_of c.args.chain.now.bytes.now) c.args.payload.now in
     let same = rw c.as_str.ensures.value at c.in_ok-chain.ensures.value in
     let due = ap (λ (ch : List (List ℕ)). opened_reply (length ring.list) (opened ring ch c.args.payload.now c.args.allow_revoked)) (sym same) in
-    ⊎_elim (λ told. dry_unopened c.args.shared.now.app.now now p ring refl c.unopened.result draws c.in-Err.why (due ∙ ap (opened_reply (length ring.list)) told) c.unopened.ensures)
-    (λ lost. wanting c.args.shared.now.app.now now p ring refl c.unopened.result draws c.in-Err.why lost.0 c.unopened.ensures) c.in-Err.ensures
+    ⊎_elim (λ told. dry_unopened c.args.setting.app.now now p ring refl c.unopened.result draws c.in-Err.why (due ∙ ap (opened_reply (length ring.list)) told) c.unopened.ensures)
+    (λ lost. wanting c.args.setting.app.now now p ring refl c.unopened.result draws c.in-Err.why lost.0 c.unopened.ensures) c.in-Err.ensures
 
 pub by_ring-requires : goal.by_ring-requires
 by_ring-requires c =

@@ -19,7 +19,7 @@ returns-in-Ok c = λ now need text draws found.
     let p = UnprotectText need c.args.allow_revoked (chain_of c.args.chain.now.bytes.now) text in
     let same = rw c.as_str.ensures.value at c.in_ok-chain.ensures.value in
     let o = opening_text c.in-Ok.opened in
-    dry_answer c.args.shared.now.app.now now p ring refl c.by_ring.result draws _ (text_due c.args.shared.now.app.now ring (chain_of c.args.chain.now.bytes.now) c.in_ok-chain.chain c.args.payload.now text c.args.allow_revoked same found (Ok o) c.in-Ok.ensures)
+    dry_answer c.args.setting.app.now now p ring refl c.by_ring.result draws _ (text_due c.args.setting.app.now ring (chain_of c.args.chain.now.bytes.now) c.in_ok-chain.chain c.args.payload.now text c.args.allow_revoked same found (Ok o) c.in-Ok.ensures)
     (by_text ring c.by_ring.result c.len-front.result c.as_str-in-Ok.result o.plain (c.len-front.ensures.value ∙ ap length c.list.ensures) c.as_str-in-Ok.ensures.value o.revoked o.default_changed c.by_ring.ensures)
 
 pub returns-in-Err-Body : goal.returns-in-Err-Body
@@ -28,7 +28,7 @@ returns-in-Err-Body c = λ now need text draws found.
     let p = UnprotectText need c.args.allow_revoked (chain_of c.args.chain.now.bytes.now) text in
     let same = rw c.as_str.ensures.value at c.in_ok-chain.ensures.value in
     let told = rw c.in-Err-Body.field-0-is at c.in-Err-Body.ensures in
-    ⊎_elim (λ is. dry_unopened c.args.shared.now.app.now now p ring refl c.unopened.result draws c.in-Err-Body.why (text_due c.args.shared.now.app.now ring (chain_of c.args.chain.now.bytes.now) c.in_ok-chain.chain c.args.payload.now text c.args.allow_revoked same found (Err (texts.Body c.in-Err-Body.why)) is) c.unopened.ensures)
+    ⊎_elim (λ is. dry_unopened c.args.setting.app.now now p ring refl c.unopened.result draws c.in-Err-Body.why (text_due c.args.setting.app.now ring (chain_of c.args.chain.now.bytes.now) c.in_ok-chain.chain c.args.payload.now text c.args.allow_revoked same found (Err (texts.Body c.in-Err-Body.why)) is) c.unopened.ensures)
     (λ is. absurd (not_wanted c.in-Err-Body.why is)) told
 
 pub returns-in-Err-NotText : goal.returns-in-Err-NotText
@@ -38,7 +38,7 @@ returns-in-Err-NotText c = λ now need text draws found.
     let same = rw c.as_str.ensures.value at c.in_ok-chain.ensures.value in
     let count = c.len-front.ensures.value ∙ ap length c.list.ensures in
     let told = rw c.in-Err-NotText.field-0-is at c.in-Err-NotText.ensures in
-    ⊎_elim (λ is. dry_answer c.args.shared.now.app.now now p ring refl c.by_ring-in-Err-NotText.result draws _ (text_due c.args.shared.now.app.now ring (chain_of c.args.chain.now.bytes.now) c.in_ok-chain.chain c.args.payload.now text c.args.allow_revoked same found (Err texts.NotText) is ∙ ap (λ (n : ℕ). reply_body (replies.NotText n)) (sym count)) c.by_ring-in-Err-NotText.ensures)
+    ⊎_elim (λ is. dry_answer c.args.setting.app.now now p ring refl c.by_ring-in-Err-NotText.result draws _ (text_due c.args.setting.app.now ring (chain_of c.args.chain.now.bytes.now) c.in_ok-chain.chain c.args.payload.now text c.args.allow_revoked same found (Err texts.NotText) is ∙ ap (λ (n : ℕ). reply_body (replies.NotText n)) (sym count)) c.by_ring-in-Err-NotText.ensures)
     (λ is. absurd cc) told
 
 pub by_ring-requires : goal.by_ring-requires

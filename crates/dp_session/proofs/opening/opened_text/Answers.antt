@@ -19,4 +19,4 @@ returns-in-None c = λ now need text draws found.
     let ring = c.args.ring.now in
     let wire = chain_of c.args.chain.now.bytes.now in
     let count = c.len-front.ensures.value ∙ ap length c.list.ensures in
-    dry_answer c.args.shared.now.app.now now (UnprotectText need c.args.allow_revoked wire text) ring refl c.by_ring.result draws _ (no_text c.args.shared.now.app.now ring wire text c.args.allow_revoked (found ∙ ap kept c.in-None.is) ∙ ap (λ (n : ℕ). reply_body (replies.BadText n)) (sym count)) c.by_ring.ensures
+    dry_answer c.args.setting.app.now now (UnprotectText need c.args.allow_revoked wire text) ring refl c.by_ring.result draws _ (no_text c.args.setting.app.now ring wire text c.args.allow_revoked (found ∙ ap kept c.in-None.is) ∙ ap (λ (n : ℕ). reply_body (replies.BadText n)) (sym count)) c.by_ring.ensures

@@ -20,7 +20,7 @@ returns-in-Ok c = λ need draws.
     let p = UnprotectTimed need c.args.allow_revoked wire c.args.payload.now in
     let same = rw c.as_str.ensures.value at c.in_ok-chain.ensures.value in
     let o = opening_timed c.in-Ok.opened in
-    dry_answer c.args.shared.now.app.now c.args.now p ring refl c.by_ring.result draws _ (timed_due c.args.shared.now.app.now c.args.now ring wire c.in_ok-chain.chain c.args.payload.now c.args.allow_revoked same (Ok o) c.in-Ok.ensures)
+    dry_answer c.args.setting.app.now c.args.now p ring refl c.by_ring.result draws _ (timed_due c.args.setting.app.now c.args.now ring wire c.in_ok-chain.chain c.args.payload.now c.args.allow_revoked same (Ok o) c.in-Ok.ensures)
     (by_timed ring c.by_ring.result c.len-front.result c.as_slice.result o.plain (c.len-front.ensures.value ∙ ap length c.list.ensures) c.as_slice.ensures.value o.revoked o.default_changed o.expiry c.by_ring.ensures)
 
 pub returns-in-Err-Body : goal.returns-in-Err-Body
@@ -30,7 +30,7 @@ returns-in-Err-Body c = λ need draws.
     let p = UnprotectTimed need c.args.allow_revoked wire c.args.payload.now in
     let same = rw c.as_str.ensures.value at c.in_ok-chain.ensures.value in
     let told = rw c.in-Err-Body.field-0-is at c.in-Err-Body.ensures in
-    ⊎_elim (λ is. dry_unopened c.args.shared.now.app.now c.args.now p ring refl c.unopened.result draws c.in-Err-Body.why (timed_due c.args.shared.now.app.now c.args.now ring wire c.in_ok-chain.chain c.args.payload.now c.args.allow_revoked same (Err (timed.Body c.in-Err-Body.why)) is) c.unopened.ensures)
+    ⊎_elim (λ is. dry_unopened c.args.setting.app.now c.args.now p ring refl c.unopened.result draws c.in-Err-Body.why (timed_due c.args.setting.app.now c.args.now ring wire c.in_ok-chain.chain c.args.payload.now c.args.allow_revoked same (Err (timed.Body c.in-Err-Body.why)) is) c.unopened.ensures)
     (λ is. absurd (not_wanted_timed c.in-Err-Body.why is)) told
 
 pub returns-in-Err-Invalid : goal.returns-in-Err-Invalid
@@ -41,7 +41,7 @@ returns-in-Err-Invalid c = λ need draws.
     let same = rw c.as_str.ensures.value at c.in_ok-chain.ensures.value in
     let count = c.len-front.ensures.value ∙ ap length c.list.ensures in
     let told = rw c.in-Err-Invalid.field-0-is at c.in-Err-Invalid.ensures in
-    ⊎_elim (λ is. dry_answer c.args.shared.now.app.now c.args.now p ring refl c.by_ring-in-Err-Invalid.result draws _ (timed_due c.args.shared.now.app.now c.args.now ring wire c.in_ok-chain.chain c.args.payload.now c.args.allow_revoked same (Err timed.Invalid) is ∙ ap (λ (n : ℕ). reply_body (replies.Invalid n)) (sym count)) c.by_ring-in-Err-Invalid.ensures)
+    ⊎_elim (λ is. dry_answer c.args.setting.app.now c.args.now p ring refl c.by_ring-in-Err-Invalid.result draws _ (timed_due c.args.setting.app.now c.args.now ring wire c.in_ok-chain.chain c.args.payload.now c.args.allow_revoked same (Err timed.Invalid) is ∙ ap (λ (n : ℕ). reply_body (replies.Invalid n)) (sym count)) c.by_ring-in-Err-Invalid.ensures)
     (λ is. absurd cc) told
 
 pub returns-in-Err-Expired : goal.returns-in-Err-Expired
@@ -52,7 +52,7 @@ returns-in-Err-Expired c = λ need draws.
     let same = rw c.as_str.ensures.value at c.in_ok-chain.ensures.value in
     let count = c.len-front.ensures.value ∙ ap length c.list.ensures in
     let told = rw c.in-Err-Expired.field-0-is at c.in-Err-Expired.ensures in
-    ⊎_elim (λ is. dry_answer c.args.shared.now.app.now c.args.now p ring refl c.by_ring-in-Err-Expired.result draws _ (timed_due c.args.shared.now.app.now c.args.now ring wire c.in_ok-chain.chain c.args.payload.now c.args.allow_revoked same (Err (timed.Expired c.in-Err-Expired.at)) is ∙ ap (λ (n : ℕ). reply_body (replies.Expired n c.in-Err-Expired.at)) (sym count)) c.by_ring-in-Err-Expired.ensures)
+    ⊎_elim (λ is. dry_answer c.args.setting.app.now c.args.now p ring refl c.by_ring-in-Err-Expired.result draws _ (timed_due c.args.setting.app.now c.args.now ring wire c.in_ok-chain.chain c.args.payload.now c.args.allow_revoked same (Err (timed.Expired c.in-Err-Expired.at)) is ∙ ap (λ (n : ℕ). reply_body (replies.Expired n c.in-Err-Expired.at)) (sym count)) c.by_ring-in-Err-Expired.ensures)
     (λ is. absurd cc) told
 
 pub by_ring-requires : goal.by_ring-requires

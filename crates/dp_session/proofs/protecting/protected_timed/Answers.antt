@@ -25,14 +25,14 @@ to_chain-requires g c = c.as_str.ensures.short
 pub returns-in-Ok : goal.returns-in-Ok
 returns-in-Ok g c = λ now need.
     let ring = c.args.ring.now in
-    let how = asks c.args.shared.now.app.now now need c.args.expiry (chain_of c.args.chain.now.bytes.now) c.in_ok-chain.chain ring c.args.plain.now (rw c.as_str.ensures.value at c.in_ok-chain.ensures.value) in
+    let how = asks c.args.setting.app.now now need c.args.expiry (chain_of c.args.chain.now.bytes.now) c.in_ok-chain.chain ring c.args.plain.now (rw c.as_str.ensures.value at c.in_ok-chain.ensures.value) in
     let count = c.len-front.ensures.value ∙ ap length c.list.ensures in
     made how c.by_ring.result (g.D.Draw.draws c.args.draw.now) (g.D.Draw.draws c.protect_timed.new.draw) _ c.in-Ok.ensures.made
     (by_payload_timed ring c.by_ring.result c.len-front.result c.as_slice-payload.result _ count c.as_slice-payload.ensures.value c.by_ring.ensures)
 
 pub returns : goal.returns
 returns g c = λ now need.
-    let how = asks c.args.shared.now.app.now now need c.args.expiry (chain_of c.args.chain.now.bytes.now) c.in_ok-chain.chain c.args.ring.now c.args.plain.now (rw c.as_str.ensures.value at c.in_ok-chain.ensures.value) in
+    let how = asks c.args.setting.app.now now need c.args.expiry (chain_of c.args.chain.now.bytes.now) c.in_ok-chain.chain c.args.ring.now c.args.plain.now (rw c.as_str.ensures.value at c.in_ok-chain.ensures.value) in
     let e = c.in-Err.ensures in
     unmade_by how c.unmade.result (g.D.Draw.draws c.args.draw.now) (g.D.Draw.draws c.protect_timed.new.draw) c.in-Err.why e.too_long (λ h. e.no_default_key h) e.keyless (λ h. ap g.D.Draw.draws (e.untouched h)) e.draw_fault
     (λ h. ⊎_elim (λ s. inl (ap g.D.Draw.draws s)) (λ d. inr d) (e.memory h)) c.unmade.ensures

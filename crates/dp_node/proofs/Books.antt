@@ -14,7 +14,7 @@ use Rattle.ring_world.specs.Course.{Course, idle, stepped, looking, led, closed,
 use Rattle.ring_world.specs.Flight.{Sight}
 use Rattle.repo_keeper.specs.Store.{Store, Moved, Grows, no_calls, one_call}
 use Rattle.dp_node.specs.HostState.{HostState, latest}
-use Rattle.dp_node.specs.Books.{Books, books, Does, Recorded, acts, acts_of, front_of, front_after, want_after, want_by, ring_shown, shown_by, tally, tally_of, with_unnoted, draws_failed, draw_failed}
+use Rattle.dp_node.specs.Books.{Books, books, Does, Recorded, acts, acts_of, looked_count, front_after, want_after, want_by, ring_shown, shown_by, tally, tally_of, with_unnoted, draws_failed, draw_failed}
 use Rattle.dp_base.proofs.Draws.{more-more, Draws-both, Draws-none}
 
 -- the first list is a front of the second
@@ -24,13 +24,13 @@ IsFrontOf a b = Extends b a
 more_then : (j k a b c i : ℕ) → b ≡ more j a → c ≡ more k b → i ≡ j + k → c ≡ more i a
 more_then j k a b c i p q r = q ∙ ap (more k) p ∙ more-more j k a ∙ ap (λ m. more m a) (sym r)
 
-acts-append : (f : ℕ) (s t : List Step) → acts f (s ++ t) ≡ acts f s ++ acts (front_of f s) t
+acts-append : (f : ℕ) (s t : List Step) → acts f (s ++ t) ≡ acts f s ++ acts (looked_count f s) t
 acts-append f [] t = refl
-acts-append f (x ∷ s) t = ap (λ r. acts_of f x ++ r) (acts-append (front_after f x) s t) ∙ sym (append_assoc (acts_of f x) (acts (front_after f x) s) (acts (front_of (front_after f x) s) t))
+acts-append f (x ∷ s) t = ap (λ r. acts_of f x ++ r) (acts-append (front_after f x) s t) ∙ sym (append_assoc (acts_of f x) (acts (front_after f x) s) (acts (looked_count (front_after f x) s) t))
 
-front_of-append : (f : ℕ) (s t : List Step) → front_of f (s ++ t) ≡ front_of (front_of f s) t
-front_of-append f [] t = refl
-front_of-append f (x ∷ s) t = front_of-append (front_after f x) s t
+looked_count-append : (f : ℕ) (s t : List Step) → looked_count f (s ++ t) ≡ looked_count (looked_count f s) t
+looked_count-append f [] t = refl
+looked_count-append f (x ∷ s) t = looked_count-append (front_after f x) s t
 
 want_after-append : (n : ℕ) (s t : List Step) → want_after n (s ++ t) ≡ want_after (want_after n s) t
 want_after-append n [] t = refl
@@ -134,7 +134,7 @@ pub latest-latest : (xs : List Step) → latest (latest xs) ≡ latest xs
 latest-latest xs = ap latest (sym (append-nil (latest xs))) ∙ latest-append xs [] ∙ ap latest (append-nil xs)
 
 -- acts after acts
-pub acts_joined : (f g : ℕ) (x y z : List Step) (s t : List Step) → g ≡ front_of f s → latest y ≡ latest (x ++ acts f s) → latest z ≡ latest (y ++ acts g t) → latest z ≡ latest (x ++ acts f (s ++ t))
+pub acts_joined : (f g : ℕ) (x y z : List Step) (s t : List Step) → g ≡ looked_count f s → latest y ≡ latest (x ++ acts f s) → latest z ≡ latest (y ++ acts g t) → latest z ≡ latest (x ++ acts f (s ++ t))
 acts_joined f g x y z s t e p q =
     q ∙ sym (latest-append y (acts g t)) ∙ ap (λ r. latest (r ++ acts g t)) p ∙ latest-append (x ++ acts f s) (acts g t)
     ∙ ap latest (append_assoc x (acts f s) (acts g t) ∙ ap (λ r. x ++ r) (ap (λ n. acts f s ++ acts n t) e ∙ sym (acts-append f s t)))
@@ -155,7 +155,7 @@ module _ (d e : Course) (a b c : Books) where
   recorded-joined p q = record {
     steps = q.steps ∙ ap (λ r. r ++ e.steps) p.steps ∙ append_assoc a.steps d.steps e.steps;
     acts = acts_joined (length a.host.looked.list) _ a.host.acts b.host.acts c.host.acts d.steps e.steps p.front p.acts q.acts;
-    front = cc (front_of-append (length a.host.looked.list) d.steps e.steps);
+    front = cc (looked_count-append (length a.host.looked.list) d.steps e.steps);
     looked = q.looked ∙ ap (λ r. last_of r e.rings) p.looked ∙ last_of-append a.host.looked d.rings e.rings;
     rings = omega (arith, length-append d.rings e.rings, ring_count-append d.steps e.steps, p.rings, q.rings);
     line = IsFrontOf-trans a.host.looked.list b.host.looked.list c.host.looked.list p.line q.line;

@@ -8,11 +8,11 @@ use Rattle.dp_node.proofs.Books.{IsFrontOf}
 use Rattle.key_ring.specs.Ring.{RingOf, ring_of}
 use Rattle.ring_world.specs.declared.step.Step.{Step}
 use Rattle.ring_world.specs.declared.step.Step.TheVariants.{Want, Take, Busy, Give, ReadFailed, PrivateRead}
-use Rattle.ring_world.specs.Course.{Course, stepped, closed, IsFront, IsCut, holds}
+use Rattle.ring_world.specs.Course.{Course, stepped, closed, IsFront, IsCutOff, holds}
 use Rattle.ring_world.specs.Lists.{longer}
 use Rattle.ring_world.specs.Flight.{Refusal, StoreFault, Shorter, Forked, Memory, Sight, sight_steps, Plain, Keyed, Filled, Shrunk, NoRead, ShortRead, NoDraw, NoKeyDraw, NoAppend, ShortAppend, Flown, Broken, whole, cut, FlightGives}
 use Rattle.ring_world.specs.Path.{Call, target, is_enough_for, is_enough, base, Sees, Wants, Turn, Blind, Rests, Parts, Flies, Path, Unseen, AtOnce, Stale, Alone, Turned, AloneFailed, AloneShort, Apart, sight_course, after_sight, turn_course, path_course, TurnGives, turned, turn_stopped, PathGives, went, stopped}
-use Rattle.dp_node.specs.Gather.{Reads}
+use Rattle.dp_node.specs.Gather.{ReadGives}
 use Rattle.dp_node.specs.Calls.{is_private, private_step}
 use Rattle.dp_node.proofs.Books.{IsFrontOf-refl}
 use Rattle.dp_node.proofs.Flights.{gather_noted}
@@ -62,7 +62,7 @@ path_noted c (AloneShort s h had got) = refl
 path_noted c (Apart s at) = refl
 
 -- a course behind which the turn is free, cut off there
-pub free_cut : (d w : Course) → holds false d.steps ≡ false → IsFront d w → IsCut d w
+pub free_cut : (d w : Course) → holds false d.steps ≡ false → IsFront d w → IsCutOff d w
 free_cut d w h f = record { front = d; is = f; given = sym (rw h refl) }
 
 module _ (c : Call) where
@@ -111,16 +111,16 @@ module _ (c : Call) (s : Sight) (sees : Sees c s) (line : Agree c.own s.ring.lis
     pub path_stale : target c ≤ length s.ring.list → PathGives c (Ok s.ring) (sight_course s (Busy h ∷ []))
     path_stale l = went (Stale s h) (sees, busy, n, l) line refl refl
 
-    pub path_alone : (es : List Element) → length s.ring.list < target c → (d : Course) → Reads true c.terms.told (base c s) (Ok es) d → PathGives c (Ok (ring_of es c.terms.now 0)) (after_sight s (Busy h ∷ []) d)
+    pub path_alone : (es : List Element) → length s.ring.list < target c → (d : Course) → ReadGives true c.terms.told (base c s) (Ok es) d → PathGives c (Ok (ring_of es c.terms.now 0)) (after_sight s (Busy h ∷ []) d)
     path_alone es l d p = went (Alone s h es) (sees, busy, l, p.0) line refl (ap (after_sight s (Busy h ∷ [])) p.1)
 
     -- no memory was found for the ring
-    pub path_alone_lost : (es : List Element) → length s.ring.list < target c → (d : Course) → Reads true c.terms.told (base c s) (Ok es) d → PathGives c (Err Memory) (after_sight s (Busy h ∷ []) d)
+    pub path_alone_lost : (es : List Element) → length s.ring.list < target c → (d : Course) → ReadGives true c.terms.told (base c s) (Ok es) d → PathGives c (Err Memory) (after_sight s (Busy h ∷ []) d)
     path_alone_lost es l d p =
         let w = sight_course s (Busy h ∷ PrivateRead (length es) ∷ []) in
         rw p.1 (stopped (Alone s h es) (sees, busy, l, p.0) line refl (free_cut w w refl (front_whole w (omega arith))))
 
-    pub path_alone_refused : (why : Refusal) → length s.ring.list < target c → (d : Course) → Reads true c.terms.told (base c s) (Err why) d → PathGives c (Err why) (after_sight s (Busy h ∷ []) d)
+    pub path_alone_refused : (why : Refusal) → length s.ring.list < target c → (d : Course) → ReadGives true c.terms.told (base c s) (Err why) d → PathGives c (Err why) (after_sight s (Busy h ∷ []) d)
     path_alone_refused StoreFault l d p = went (AloneFailed s h) (sees, busy, l) line refl (ap (after_sight s (Busy h ∷ [])) p)
     path_alone_refused (Shorter had got) l d p = went (AloneShort s h had got) (sees, busy, l, p.0, p.1) line refl (ap (after_sight s (Busy h ∷ [])) p.2)
     path_alone_refused Memory l d (inl p) =

@@ -9,7 +9,7 @@ use Rattle.ring_world.specs.declared.step.Step.TheVariants.{Read, ReadFailed, We
 use Rattle.ring_world.specs.Course.{Course, stepped, joined, IsFront}
 use Rattle.ring_world.specs.Lists.{IsReadFrom, IsReadUpTo, Reaches, IsGrown}
 use Rattle.ring_world.specs.Flight.{Refusal, StoreFault, DrawFault, Shorter, Full, Memory, Sight, Terms, jitter_of, makes_key, new_key, Plain, Keyed, Filled, Shrunk, NoRead, ShortRead, NoDraw, NoKeyDraw, NoAppend, ShortAppend, Flight, Flown, Broken, IsRead, gather_course, gather_end, last_ring, last_step, published_after, whole, cut, Gathers, FlightGives}
-use Rattle.dp_node.specs.Gather.{goes_on, Reads, DrawGives, KeyGives, Appends}
+use Rattle.dp_node.specs.Gather.{goes_on, ReadGives, DrawGives, KeyGives, AppendGives}
 use Rattle.dp_node.proofs.Books.{IsFrontOf-trans, IsFrontOf-le, IsFrontOf-split, Grows-refl}
 use Rattle.dp_node.proofs.Fronts.{bare, bare-step, front, front_unnoted}
 
@@ -55,7 +55,7 @@ was_read t told base es b g p = (read_before told t.told base es p g, read_reach
 abbrev pub Began : Option (List Element) → List Element → List Element → List Step → List ℕ → Course → Type 0
 Began told base es s b d = IsReadFrom told base es × (d ≡ bare (Read (length es) ∷ s) b)
 
-pub began : (told : Option (List Element)) (base es : List Element) (d : Course) → Reads false told base (Ok es) d → Began told base es [] [] d
+pub began : (told : Option (List Element)) (base es : List Element) (d : Course) → ReadGives false told base (Ok es) d → Began told base es [] [] d
 began told base es d p = p
 
 pub began_word : (told : Option (List Element)) (base es : List Element) (w : List ℕ) (d e : Course) → Began told base es [] [] d → DrawGives 8 (Ok w) e → Began told base es (Drawn 8 ∷ []) w (joined d e)
@@ -70,15 +70,15 @@ pub began_key : (told : Option (List Element)) (base es : List Element) (w : Lis
 began_key told base es w make key d e p q = (q.0, q.1, q.2, (p.0, rw (p.1, q.3) refl))
 
 -- an append to the same list of the same element
-pub appends_at : (told : Option (List Element)) (es es' : List Element) (e e' : Element) (r : Result (List Element) Refusal) (d : Course) → es' ≡ es → e' ≡ e → Appends told es' e' r d → Appends told es e r d
-appends_at told es es' e e' r d p q a = subst (λ (x : List Element). Appends told x e r d) p (subst (λ (x : Element). Appends told es' x r d) q a)
+pub appends_at : (told : Option (List Element)) (es es' : List Element) (e e' : Element) (r : Result (List Element) Refusal) (d : Course) → es' ≡ es → e' ≡ e → AppendGives told es' e' r d → AppendGives told es e r d
+appends_at told es es' e e' r d p q a = subst (λ (x : List Element). AppendGives told x e r d) p (subst (λ (x : Element). AppendGives told es' x r d) q a)
 
 module _ (t : Terms) (base : List Element) (since : Grows t.before t.told) where
   -- nothing was called since the list was read
   read_last : (es : List Element) → IsReadFrom t.told base es → IsRead t base es
   read_last es p = was_read t t.told base es since (Grows-refl t.told) p
 
-  pub reads_gathers : (why : Refusal) (d : Course) → Reads false t.told base (Err why) d → Gathers t base (Err why) d
+  pub reads_gathers : (why : Refusal) (d : Course) → ReadGives false t.told base (Err why) d → Gathers t base (Err why) d
   reads_gathers StoreFault d p = whole (Broken NoRead) tt refl p
   reads_gathers (Shorter had got) d p = whole (Broken (ShortRead had got)) (p.0, p.1) refl p.2
   reads_gathers Memory d (inl p) = cut (Broken NoRead) tt refl (front_unnoted d [] (ReadFailed ∷ []) [] [] [] None 0 p)
@@ -109,7 +109,7 @@ module _ (t : Terms) (told : Option (List Element)) (base es : List Element) (w 
   read : IsRead t base es
   read = was_read t told base es since grows p.0
 
-  pub keyed_gathers : (fs : List Element) → Appends t.told es (new_key t es k) (Ok fs) e → Gathers t base (Ok (ring_of fs t.now (jitter_of w))) (joined d e)
+  pub keyed_gathers : (fs : List Element) → AppendGives t.told es (new_key t es k) (Ok fs) e → Gathers t base (Ok (ring_of fs t.now (jitter_of w))) (joined d e)
   keyed_gathers fs q =
       whole (Flown w (Keyed es k fs)) (eight, (read, makes, eighty, q.1, read_twice told t.told base es fs p.0 grows q.0)) refl
       (rw (p.1, q.2) (bare-step so_far (w ++ k) (Appended (length fs - 1) ∷ [])))
@@ -120,10 +120,10 @@ module _ (t : Terms) (told : Option (List Element)) (base es : List Element) (w 
       (front (joined d e) (Read (length es) ∷ Drawn 8 ∷ Drawn 80 ∷ Appended (length fs - 1) ∷ []) [] (w ++ k) [] None 0 (rw (p.1, q) (bare-step so_far (w ++ k) (Appended (length fs - 1) ∷ []))))
 
   -- no memory was found for the ring of the list with the key
-  pub keyed_lost : (fs : List Element) → Appends t.told es (new_key t es k) (Ok fs) e → Gathers t base (Err Memory) (joined d e)
+  pub keyed_lost : (fs : List Element) → AppendGives t.told es (new_key t es k) (Ok fs) e → Gathers t base (Err Memory) (joined d e)
   keyed_lost fs q = keyed_cut fs q.0 q.1 q.2
 
-  pub full_gathers : (why : Refusal) → goes_on t.opening why ≡ true → Appends t.told es (new_key t es k) (Err why) e → Gathers t base (Ok (ring_of es t.now (jitter_of w))) (joined d e)
+  pub full_gathers : (why : Refusal) → goes_on t.opening why ≡ true → AppendGives t.told es (new_key t es k) (Err why) e → Gathers t base (Ok (ring_of es t.now (jitter_of w))) (joined d e)
   full_gathers (Full count) o q =
       whole (Flown w (Filled es k)) (eight, (read, makes, eighty, q.1)) refl
       (rw (p.1, q.2) (bare-step so_far (w ++ k) (AppendFull ∷ [])))
@@ -132,7 +132,7 @@ module _ (t : Terms) (told : Option (List Element)) (base es : List Element) (w 
       (rw (p.1, q.2, q.0) (bare-step so_far (w ++ k) (WentBack (length es) got ∷ [])))
   full_gathers _ o q = cc
 
-  pub append_gathers : (why : Refusal) → goes_on t.opening why ≡ false → Appends t.told es (new_key t es k) (Err why) e → Gathers t base (Err why) (joined d e)
+  pub append_gathers : (why : Refusal) → goes_on t.opening why ≡ false → AppendGives t.told es (new_key t es k) (Err why) e → Gathers t base (Err why) (joined d e)
   append_gathers StoreFault o q =
       whole (Broken (NoAppend es w k)) (read, makes, eight, eighty) refl (rw (p.1, q) (bare-step so_far (w ++ k) (AppendFailed ∷ [])))
   append_gathers (Shorter had got) o q =

@@ -13,9 +13,9 @@ use Rattle.dp_node.specs.HostState.{HostState}
 use Rattle.dp_node.specs.Books.{books, Does}
 use Rattle.dp_node.specs.Calls.{terms}
 use Rattle.dp_node.specs.Gather.{refusal}
-use Rattle.dp_node.specs.Opening.{Opens, refused_as}
+use Rattle.dp_node.specs.Opening.{OpeningGives, refused_as}
 
-pub opens_refused : (facts : NodeFacts) (why : NodeError) → Opens facts (Err (refused_as why)) (Err (refusal why))
+pub opens_refused : (facts : NodeFacts) (why : NodeError) → OpeningGives facts (Err (refused_as why)) (Err (refusal why))
 opens_refused facts errors.StoreFault = refl
 opens_refused facts errors.DrawFault = refl
 opens_refused facts _ = tt

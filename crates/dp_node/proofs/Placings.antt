@@ -13,7 +13,7 @@ use Rattle.ring_world.specs.Flight.{Refusal, StoreFault, DrawFault, Shorter, Ful
 use Rattle.ring_world.specs.Placing.{Asked, Placing, Placed, Undrawn, Unplaced, Overfull, Receded, place_end, place_of, PlacePath, complete, cut_off}
 use Rattle.dp_node.specs.declared.error.NodeError.{NodeError}
 use Rattle.dp_node.specs.declared.error.NodeError.TheVariants as errors
-use Rattle.dp_node.specs.Gather.{Appends, KeyGives, refusal, seen}
+use Rattle.dp_node.specs.Gather.{AppendGives, KeyGives, refusal, in_paths}
 use Rattle.dp_node.specs.Places.{asked}
 use Rattle.dp_node.proofs.Fronts.{bare, front, front_unnoted}
 
@@ -22,10 +22,10 @@ pub grown-some : (es fs : List Element) (e : Element) → IsGrown es e fs → 1 
 grown-some es fs e g = omega (arith, ap length g.1, length-append es (g.0 ++ e ∷ []), length-append g.0 (e ∷ []))
 
 module _ (told : Option (List Element)) (own : List Element) (e : Element) where
-  pub append_placed : (fs : List Element) (d : Course) → Appends told own e (Ok fs) d → PlacePath (asked own false (λ _. e) told) (Ok (length fs - 1)) fs (closed d (RaiseWant (length fs) ∷ Answer ∷ []))
+  pub append_placed : (fs : List Element) (d : Course) → AppendGives told own e (Ok fs) d → PlacePath (asked own false (λ _. e) told) (Ok (length fs - 1)) fs (closed d (RaiseWant (length fs) ∷ Answer ∷ []))
   append_placed fs d p = complete (Placed [] fs) (refl, p.1, p.0) refl refl (ap (λ (y : Course). closed y (RaiseWant (length fs) ∷ Answer ∷ [])) p.2)
 
-  pub append_unplaced : (why : Refusal) (d : Course) → Appends told own e (Err why) d → PlacePath (asked own false (λ _. e) told) (Err why) own d
+  pub append_unplaced : (why : Refusal) (d : Course) → AppendGives told own e (Err why) d → PlacePath (asked own false (λ _. e) told) (Err why) own d
   append_unplaced StoreFault d p = complete (Unplaced []) refl refl refl p
   append_unplaced (Full count) d p = complete (Overfull []) (refl, p.1) (ap (λ n. Err (Full n)) (sym p.0)) refl p.2
   append_unplaced (Shorter had got) d p =
@@ -96,7 +96,7 @@ pub place_not_dates : (a : Asked) (why : NodeError) (own : List Element) (d : Co
 place_not_dates a why own d (complete p is end o q) e = place_never a p (end ∙ ap (λ w. Err (refusal w)) e)
 place_not_dates a why own d (cut_off p is end o f) e = cc (ap refusal e)
 
-pub result_not_dates : (a : Asked) (r : Result ℕ NodeError) (own : List Element) (d : Course) → PlacePath a (seen r) own d → r ≡ Err errors.BadDates → ⊥
+pub result_not_dates : (a : Asked) (r : Result ℕ NodeError) (own : List Element) (d : Course) → PlacePath a (in_paths r) own d → r ≡ Err errors.BadDates → ⊥
 result_not_dates a (Ok n) own d p e = cc
 result_not_dates a (Err why) own d p e = place_not_dates a why own d p (cc e)
 

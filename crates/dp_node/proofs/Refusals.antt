@@ -15,7 +15,7 @@ use Rattle.ring_world.specs.Lists.{IsReadFrom, IsGrown, IsFilled}
 use Rattle.ring_world.specs.Flight.{Memory as MemoryRefused}
 use Rattle.dp_node.specs.HostState.{HostState}
 use Rattle.dp_node.specs.Books.{books, Recorded, Does}
-use Rattle.dp_node.specs.Gather.{refused_as, refusal_steps, read_step, unnoted_call, Reads, Appends}
+use Rattle.dp_node.specs.Gather.{refused_as, refusal_steps, read_step, unnoted_call, ReadGives, AppendGives}
 use Rattle.dp_node.proofs.Books.{stored, unnoted}
 
 -- the list from the base on
@@ -39,7 +39,7 @@ module _ (steps steps' : List Step) (host : HostState) (st st' : Store) (w : Dra
   stayed e m = let e' : steps ≡ steps' = sym (e ∙ append-nil steps) in
       subst (λ x. Recorded unnoted_call (books steps host st w) (books x host st' w)) e' (unnoted steps host st st' w m)
 
-  pub read_refused : (private : Bool) (told : Option (List Element)) (base : List Element) (known : ℕ) (why : RepoError) → known ≡ length base → Moved (refused_tally why) st st' → steps' ≡ steps ++ refusal_steps known ReadFailed why → IsReadCause known told why → Does (Reads private told base (Err (refused_as known why))) (books steps host st w) (books steps' host st' w)
+  pub read_refused : (private : Bool) (told : Option (List Element)) (base : List Element) (known : ℕ) (why : RepoError) → known ≡ length base → Moved (refused_tally why) st st' → steps' ≡ steps ++ refusal_steps known ReadFailed why → IsReadCause known told why → Does (ReadGives private told base (Err (refused_as known why))) (books steps host st w) (books steps' host st' w)
   read_refused private told base known Failed k m e c =
       record { course = stepped (ReadFailed ∷ []); recorded = stored ReadFailed steps steps' host st st' w (λ _. refl) (λ _. refl) (λ _. refl) refl refl refl refl e m; is = refl }
   read_refused private told base known (Short have) k m e c =
@@ -48,7 +48,7 @@ module _ (steps steps' : List Step) (host : HostState) (st st' : Store) (w : Dra
   read_refused private told base known Memory k m e c =
       record { course = unnoted_call; recorded = stayed e m; is = inl refl }
 
-  pub append_refused : (told : Option (List Element)) (es : List Element) (element : Element) (known : ℕ) (why : RepoError) → known ≡ length es → Moved (refused_tally why) st st' → steps' ≡ steps ++ refusal_steps known AppendFailed why → IsCause known told why → Does (Appends told es element (Err (refused_as known why))) (books steps host st w) (books steps' host st' w)
+  pub append_refused : (told : Option (List Element)) (es : List Element) (element : Element) (known : ℕ) (why : RepoError) → known ≡ length es → Moved (refused_tally why) st st' → steps' ≡ steps ++ refusal_steps known AppendFailed why → IsCause known told why → Does (AppendGives told es element (Err (refused_as known why))) (books steps host st w) (books steps' host st' w)
   append_refused told es element known Failed k m e c =
       record { course = stepped (AppendFailed ∷ []); recorded = stored AppendFailed steps steps' host st st' w (λ _. refl) (λ _. refl) (λ _. refl) refl refl refl refl e m; is = refl }
   append_refused told es element known (Short have) k m e c =
@@ -63,21 +63,21 @@ module _ (steps steps' : List Step) (host : HostState) (st st' : Store) (w : Dra
   read_noted true es front k m e = stored (PrivateRead (length es)) steps steps' host st st' w (λ _. refl) (λ _. refl) (λ _. refl) refl refl refl refl (rw k at e) m
   read_noted false es front k m e = stored (Read (length es)) steps steps' host st st' w (λ _. refl) (λ _. refl) (λ _. refl) refl refl refl refl (rw k at e) m
 
-  pub read_gave : (private : Bool) (told : Option (List Element)) (base es : List Element) (front : ℕ) → front ≡ length es → Moved one_call st st' → steps' ≡ steps ++ read_step private front ∷ [] → IsReadFrom told base es → Does (Reads private told base (Ok es)) (books steps host st w) (books steps' host st' w)
+  pub read_gave : (private : Bool) (told : Option (List Element)) (base es : List Element) (front : ℕ) → front ≡ length es → Moved one_call st st' → steps' ≡ steps ++ read_step private front ∷ [] → IsReadFrom told base es → Does (ReadGives private told base (Ok es)) (books steps host st w) (books steps' host st' w)
   read_gave private told base es front k m e r =
       record { course = stepped (read_step private (length es) ∷ []); recorded = read_noted private es front k m e; is = (r, refl) }
 
-  pub read_lost : (private : Bool) (told : Option (List Element)) (base es : List Element) (front : ℕ) → front ≡ length es → Moved one_call st st' → steps' ≡ steps ++ read_step private front ∷ [] → IsReadFrom told base es → Does (Reads private told base (Err MemoryRefused)) (books steps host st w) (books steps' host st' w)
+  pub read_lost : (private : Bool) (told : Option (List Element)) (base es : List Element) (front : ℕ) → front ≡ length es → Moved one_call st st' → steps' ≡ steps ++ read_step private front ∷ [] → IsReadFrom told base es → Does (ReadGives private told base (Err MemoryRefused)) (books steps host st w) (books steps' host st' w)
   read_lost private told base es front k m e r =
       record { course = stepped (read_step private (length es) ∷ []); recorded = read_noted private es front k m e; is = inr (es, r, refl) }
 
   append_noted : (fs : List Element) (place : ℕ) → place ≡ length fs - 1 → Moved (record one_call { places = place ∷ [] }) st st' → steps' ≡ steps ++ Appended place ∷ [] → Recorded (stepped (Appended (length fs - 1) ∷ [])) (books steps host st w) (books steps' host st' w)
   append_noted fs place k m e = stored (Appended (length fs - 1)) steps steps' host st st' w (λ _. refl) (λ _. refl) (λ _. refl) refl refl refl refl (rw k at e) (rw k at m)
 
-  pub append_gave : (told : Option (List Element)) (es : List Element) (element : Element) (fs : List Element) (place : ℕ) → place ≡ length fs - 1 → Moved (record one_call { places = place ∷ [] }) st st' → steps' ≡ steps ++ Appended place ∷ [] → IsReadFrom told es fs → IsGrown es element fs → Does (Appends told es element (Ok fs)) (books steps host st w) (books steps' host st' w)
+  pub append_gave : (told : Option (List Element)) (es : List Element) (element : Element) (fs : List Element) (place : ℕ) → place ≡ length fs - 1 → Moved (record one_call { places = place ∷ [] }) st st' → steps' ≡ steps ++ Appended place ∷ [] → IsReadFrom told es fs → IsGrown es element fs → Does (AppendGives told es element (Ok fs)) (books steps host st w) (books steps' host st' w)
   append_gave told es element fs place k m e r g =
       record { course = stepped (Appended (length fs - 1) ∷ []); recorded = append_noted fs place k m e; is = (r, g, refl) }
 
-  pub append_lost : (told : Option (List Element)) (es : List Element) (element : Element) (fs : List Element) (place : ℕ) → place ≡ length fs - 1 → Moved (record one_call { places = place ∷ [] }) st st' → steps' ≡ steps ++ Appended place ∷ [] → IsReadFrom told es fs → IsGrown es element fs → Does (Appends told es element (Err MemoryRefused)) (books steps host st w) (books steps' host st' w)
+  pub append_lost : (told : Option (List Element)) (es : List Element) (element : Element) (fs : List Element) (place : ℕ) → place ≡ length fs - 1 → Moved (record one_call { places = place ∷ [] }) st st' → steps' ≡ steps ++ Appended place ∷ [] → IsReadFrom told es fs → IsGrown es element fs → Does (AppendGives told es element (Err MemoryRefused)) (books steps host st w) (books steps' host st' w)
   append_lost told es element fs place k m e r g =
       record { course = stepped (Appended (length fs - 1) ∷ []); recorded = append_noted fs place k m e; is = inr (fs, r, g, refl) }

@@ -12,7 +12,7 @@ use Rattle.key_ring.specs.Ring.{RingOf}
 use Rattle.repo_keeper.specs.Store.{Store}
 use Rattle.ring_world.specs.declared.step.Step.{Step}
 use Rattle.ring_world.specs.declared.step.Step.TheVariants.{Give, Answer}
-use Rattle.ring_world.specs.Course.{Course, idle, closed, joined, given_back, IsFront, IsCut, holds, holds_after}
+use Rattle.ring_world.specs.Course.{Course, idle, closed, joined, given_back, IsFront, IsCutOff, holds, holds_after}
 use Rattle.ring_world.specs.Flight.{Refusal, Behind, Memory, Sight, Plain, Keyed, Filled, Shrunk, Flown, Broken}
 use Rattle.ring_world.specs.Path.{Call, Path, Unseen, AtOnce, Stale, Alone, Turned, AloneFailed, AloneShort, Apart, Blind, Rests, Parts, Flies, IsPath, InLine, PathGives, went, stopped, path_course, path_end}
 use Rattle.ring_world.specs.Settle.{any_reads, misses, Keeps, Again, IsSettled, settle_course, SettleGives, settled, settle_stopped}
@@ -108,7 +108,7 @@ module _ (a : Course) (published : a.published ≡ None) (noted : a.unnoted ≡ 
       let e' : holds false (a.steps ++ f.steps) ≡ false = holds-append false a.steps f.steps ∙ ap (λ b. holds b f.steps) free ∙ e in
       rw (g, e, e') refl
 
-  cut_behind : (d w : Course) → holds false a.steps ≡ false → IsCut d w → IsCut (joined a d) (joined a w)
+  cut_behind : (d w : Course) → holds false a.steps ≡ false → IsCutOff d w → IsCutOff (joined a d) (joined a w)
   cut_behind d w free g = record {
     front = joined a g.front;
     is = front_behind g.front w g.is;
@@ -116,7 +116,7 @@ module _ (a : Course) (published : a.published ≡ None) (noted : a.unnoted ≡ 
   }
 
   -- one that is cut off before another
-  cut_before : (d w : Course) → IsCut d a → IsCut d (joined a w)
+  cut_before : (d w : Course) → IsCutOff d a → IsCutOff d (joined a w)
   cut_before d w g =
       let f = g.is in
       record {
@@ -138,7 +138,7 @@ joined-idle d = Course-eq (joined d idle) d (append-nil d.steps) (append-nil d.d
 -- was cut off
 pub data WayGives (c : Call) (result : Result RingOf Refusal) (d : Course) : Type 0 where
   gone : (x : Way) → IsWay c x → InLineWay c x → way_end c x ≡ result → d ≡ way_course c x → WayGives c result d
-  gone_stopped : (x : Way) → IsWay c x → InLineWay c x → result ≡ Err Memory → IsCut d (way_course c x) → WayGives c result d
+  gone_stopped : (x : Way) → IsWay c x → InLineWay c x → result ≡ Err Memory → IsCutOff d (way_course c x) → WayGives c result d
 
 -- a path, and what settles it
 settled_way : (c : Call) (r : RingOf) (result : Result RingOf Refusal) (d e : Course) → PathGives c (Ok r) d → SettleGives c d.steps r result e → WayGives c result (joined d e)
@@ -208,15 +208,15 @@ any_want (Some one) = (one.want, refl)
 
 module _ (c : Call) where
   -- a path that was cut off is that of a way that was
-  comes_cut : (p : Path) (r : RingOf) (d : Course) (b : Bool) → misses c (path_course c p).steps r ≡ b → IsPath c p → InLine c p → path_end c p ≡ Ok r → IsCut d (path_course c p) → (x : Way) × IsWay c x × InLineWay c x × IsCut d (way_course c x)
-  comes_cut p r d false m is l e g = (Comes p r Keeps, (is, e, m), (l, tt), subst (IsCut d) (sym (joined-idle (path_course c p))) g)
+  comes_cut : (p : Path) (r : RingOf) (d : Course) (b : Bool) → misses c (path_course c p).steps r ≡ b → IsPath c p → InLine c p → path_end c p ≡ Ok r → IsCutOff d (path_course c p) → (x : Way) × IsWay c x × InLineWay c x × IsCutOff d (way_course c x)
+  comes_cut p r d false m is l e g = (Comes p r Keeps, (is, e, m), (l, tt), subst (IsCutOff d) (sym (joined-idle (path_course c p))) g)
   comes_cut p r d true m is l e g =
       let n = any_want c.single in
       let t = Blind n.0 in
       let quiet = path_quiet c p r e (misses-unread c (path_course c p).steps r m) in
       (Comes p r (Again t), (is, e, (m, n.1)), (l, tt), cut_before (path_course c p) quiet.published (path_noted c p) d (settle_course c (Again t)) g)
 
-  path_cut : (p : Path) (d : Course) (end : Result RingOf Refusal) → path_end c p ≡ end → IsPath c p → InLine c p → IsCut d (path_course c p) → (x : Way) × IsWay c x × InLineWay c x × IsCut d (way_course c x)
+  path_cut : (p : Path) (d : Course) (end : Result RingOf Refusal) → path_end c p ≡ end → IsPath c p → InLine c p → IsCutOff d (path_course c p) → (x : Way) × IsWay c x × InLineWay c x × IsCutOff d (way_course c x)
   path_cut p d (Ok r) e is l g = comes_cut p r d _ refl is l e g
   path_cut p d (Err why) e is l g = (Fails p, (is, why, e), l, g)
 

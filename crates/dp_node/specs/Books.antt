@@ -29,9 +29,9 @@ front_after front (Look f m u e) = f
 front_after front (Publish f u) = f
 front_after front _ = front
 
-abbrev pub front_of : ℕ → List Step → ℕ
-front_of front [] = front
-front_of front (x ∷ xs) = front_of (front_after front x) xs
+abbrev pub looked_count : ℕ → List Step → ℕ
+looked_count front [] = front
+looked_count front (x ∷ xs) = looked_count (front_after front x) xs
 
 -- the acts of steps
 abbrev pub acts : ℕ → List Step → List Step
@@ -108,7 +108,7 @@ books steps host store draws = record { steps = steps; host = host; store = stor
 pub record Recorded (d : Course) (old new : Books) : Type 0 where
   pub steps : new.steps ≡ old.steps ++ d.steps
   pub acts : latest new.host.acts ≡ latest (old.host.acts ++ acts (length old.host.looked.list) d.steps)
-  pub front : length new.host.looked.list ≡ front_of (length old.host.looked.list) d.steps
+  pub front : length new.host.looked.list ≡ looked_count (length old.host.looked.list) d.steps
   pub looked : new.host.looked ≡ last_of old.host.looked d.rings
   pub rings : length d.rings ≡ ring_count d.steps
   pub line : Extends new.host.looked.list old.host.looked.list

@@ -9,7 +9,7 @@ use Rattle.repo_keeper.specs.declared.repo.RepoError.TheVariants.{Failed, Short,
 use Rattle.ring_world.specs.declared.step.Step.{Step}
 use Rattle.ring_world.specs.declared.step.Step.TheVariants.{Read, PrivateRead, ReadFailed, WentBack, Drawn, DrawFailed, Appended, AppendFull, AppendFailed}
 use Rattle.ring_world.specs.Course.{Course, idle, stepped}
-use Rattle.ring_world.specs.Lists.{IsReadFrom, IsShort, IsFilled, IsGrown}
+use Rattle.ring_world.specs.Lists.{IsReadFrom, FindsFewer, IsFilled, IsGrown}
 use Rattle.ring_world.specs.Flight.{Refusal, StoreFault, DrawFault, Shorter, Behind, Forked, Full, BadDates, Memory}
 use Rattle.dp_node.specs.declared.error.NodeError.{NodeError}
 use Rattle.dp_node.specs.declared.error.NodeError.TheVariants as errors
@@ -25,9 +25,9 @@ refusal (errors.Full count) = Full count
 refusal errors.BadDates = BadDates
 refusal errors.Memory = Memory
 
-abbrev pub seen : {A : Type 0} → Result A NodeError → Result A Refusal
-seen (Ok x) = Ok x
-seen (Err why) = Err (refusal why)
+abbrev pub in_paths : {A : Type 0} → Result A NodeError → Result A Refusal
+in_paths (Ok x) = Ok x
+in_paths (Err why) = Err (refusal why)
 
 abbrev pub is_memory : Refusal → Bool
 is_memory Memory = true
@@ -62,16 +62,16 @@ abbrev pub unnoted_call : Course
 unnoted_call = record idle { unnoted = 1 }
 
 -- what a read from the base gave
-abbrev pub Reads : Bool → Option (List Element) → List Element → Result (List Element) Refusal → Course → Type 0
-Reads private told base (Ok es) d =
+abbrev pub ReadGives : Bool → Option (List Element) → List Element → Result (List Element) Refusal → Course → Type 0
+ReadGives private told base (Ok es) d =
     IsReadFrom told base es × (d ≡ stepped (read_step private (length es) ∷ []))
-Reads private told base (Err StoreFault) d = d ≡ stepped (ReadFailed ∷ [])
-Reads private told base (Err (Shorter had got)) d =
-    (had ≡ length base) × IsShort told had got × (d ≡ stepped (WentBack had got ∷ []))
-Reads private told base (Err Memory) d =
+ReadGives private told base (Err StoreFault) d = d ≡ stepped (ReadFailed ∷ [])
+ReadGives private told base (Err (Shorter had got)) d =
+    (had ≡ length base) × FindsFewer told had got × (d ≡ stepped (WentBack had got ∷ []))
+ReadGives private told base (Err Memory) d =
     (d ≡ unnoted_call)
     ⊎ ((es : List Element) × IsReadFrom told base es × (d ≡ stepped (read_step private (length es) ∷ [])))
-Reads private told base (Err _) d = ⊥
+ReadGives private told base (Err _) d = ⊥
 
 -- what a draw of so many bytes gave
 abbrev pub DrawGives : ℕ → Result (List ℕ) Refusal → Course → Type 0
@@ -92,15 +92,15 @@ abbrev pub IsKeyElement : Element → Type 0
 IsKeyElement e = (k : KeyRecord) × (e ≡ Key k)
 
 -- what an append to the list gave: the list that ends with the new element
-abbrev pub Appends : Option (List Element) → List Element → Element → Result (List Element) Refusal → Course → Type 0
-Appends told es e (Ok fs) d =
+abbrev pub AppendGives : Option (List Element) → List Element → Element → Result (List Element) Refusal → Course → Type 0
+AppendGives told es e (Ok fs) d =
     IsReadFrom told es fs × IsGrown es e fs × (d ≡ stepped (Appended (length fs - 1) ∷ []))
-Appends told es e (Err (Full count)) d =
+AppendGives told es e (Err (Full count)) d =
     (count ≡ MAX_ELEMENTS) × IsFilled told × (d ≡ stepped (AppendFull ∷ []))
-Appends told es e (Err StoreFault) d = d ≡ stepped (AppendFailed ∷ [])
-Appends told es e (Err (Shorter had got)) d =
-    (had ≡ length es) × IsShort told had got × (d ≡ stepped (WentBack had got ∷ []))
-Appends told es e (Err Memory) d =
+AppendGives told es e (Err StoreFault) d = d ≡ stepped (AppendFailed ∷ [])
+AppendGives told es e (Err (Shorter had got)) d =
+    (had ≡ length es) × FindsFewer told had got × (d ≡ stepped (WentBack had got ∷ []))
+AppendGives told es e (Err Memory) d =
     (d ≡ unnoted_call)
     ⊎ ((fs : List Element) × IsReadFrom told es fs × IsGrown es e fs × (d ≡ stepped (Appended (length fs - 1) ∷ [])))
-Appends told es e (Err _) d = ⊥
+AppendGives told es e (Err _) d = ⊥

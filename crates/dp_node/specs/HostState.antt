@@ -62,12 +62,12 @@ abbrev pub raised : ℕ → HostState → HostState
 raised n s = acted (RaiseWant n) (record s { single = option_map (wanted n) s.single })
 
 -- a look may show the ring
-abbrev pub Shows : RingOf → HostState → Type 0
-Shows r s = Extends r.list s.floor × Extends r.list s.looked.list × IfSome s.single (λ one. r ≡ one.ring)
+abbrev pub MayShow : RingOf → HostState → Type 0
+MayShow r s = Extends r.list s.floor × Extends r.list s.looked.list × IfSome s.single (λ one. r ≡ one.ring)
 
 -- the want number may be n
-abbrev pub Answers : ℕ → HostState → Type 0
-Answers n s = IfSome s.single (λ one. n ≡ one.want)
+abbrev pub MayWant : ℕ → HostState → Type 0
+MayWant n s = IfSome s.single (λ one. n ≡ one.want)
 
 -- a try of the turn; a pass that is alone is never told Busy
 abbrev pub Takes : Result Unit BusyHost → HostState → HostState → Type 0

@@ -21,8 +21,8 @@ refused_as _ = refused.Memory
 
 -- what is answered where the ring was made, or wasn't for this reason; want of memory may come at any
 -- time
-abbrev pub Opens : NodeFacts → Result HostState OpenRefused → Result RingOf Refusal → Type 0
-Opens facts (Ok solo) r = (ring : RingOf) × (r ≡ Ok ring) × (solo ≡ solo_of facts ring)
-Opens facts (Err refused.StoreFault) r = r ≡ Err StoreFault
-Opens facts (Err refused.DrawFault) r = r ≡ Err DrawFault
-Opens facts (Err refused.Memory) r = Unit {0}
+abbrev pub OpeningGives : NodeFacts → Result HostState OpenRefused → Result RingOf Refusal → Type 0
+OpeningGives facts (Ok solo) r = (ring : RingOf) × (r ≡ Ok ring) × (solo ≡ solo_of facts ring)
+OpeningGives facts (Err refused.StoreFault) r = r ≡ Err StoreFault
+OpeningGives facts (Err refused.DrawFault) r = r ≡ Err DrawFault
+OpeningGives facts (Err refused.Memory) r = Unit {0}

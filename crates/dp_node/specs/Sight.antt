@@ -7,7 +7,7 @@ use Rattle.ring_world.specs.Flight.{Sight, sight_steps}
 use Rattle.dp_node.specs.declared.error.NodeError.{NodeError}
 use Rattle.dp_node.specs.declared.error.NodeError.TheVariants.{Forked, Memory}
 use Rattle.dp_node.specs.declared.sight.Sight.{Sight as SeenSight}
-use Rattle.dp_node.specs.HostState.{HostState, Answers, acted, looked_at}
+use Rattle.dp_node.specs.HostState.{HostState, MayWant, acted, looked_at}
 
 -- what the code keeps of a sight
 abbrev pub sight_of : SeenSight → Sight
@@ -24,7 +24,7 @@ SeenBy s h = Extends s.ring.list h.floor × Extends s.ring.list h.looked.list ×
 -- a look that gave nothing: no memory was found for it, or the list that it showed differs
 abbrev pub LookRefused : NodeError → HostState → HostState → List Step → List Step → Type 0
 LookRefused Memory old new steps steps' =
-    ((n : ℕ) × Answers n old × (new ≡ acted (Want n) old) × (steps' ≡ steps ++ Want n ∷ []))
+    ((n : ℕ) × MayWant n old × (new ≡ acted (Want n) old) × (steps' ≡ steps ++ Want n ∷ []))
     ⊎ ((s : Sight) × (at : ℕ) × (new ≡ sighted s old) × (steps' ≡ steps ++ sight_steps s) × SeenBy s old
     × IsFirstDifference old.own s.ring.list at)
 LookRefused (Forked f) old new steps steps' =

@@ -6,6 +6,7 @@ ghost use Rattle.dp_base.specs.declared.ticks.TheConstants.{LAST};
 ghost use Rattle.key_elements.specs.declared.element.Element.{Element};
 ghost use Rattle.key_elements.specs.Lists.{Extends, Agree};
 ghost use Rattle.repo_keeper.specs.Store.{Grows};
+ghost use Rattle.ring_world.specs.declared.step.TheConstants.{MAX_STEPS};
 ghost use Rattle.ring_world.specs.Lists.{longer};
 ghost use Rattle.ring_world.specs.Flight.{FlightGives};
 ghost use Rattle.ring_world.specs.Path.{TurnGives, PathGives};
@@ -14,7 +15,7 @@ ghost use Rattle.dp_node.specs.HostState.{Steady};
 ghost use Rattle.dp_node.specs.Sight.{sight_of};
 ghost use Rattle.dp_node.specs.Books.{books, Does};
 ghost use Rattle.dp_node.specs.Lent.{SameLoans, books_of};
-ghost use Rattle.dp_node.specs.Gather.{is_memory, refusal, seen};
+ghost use Rattle.dp_node.specs.Gather.{is_memory, refusal, in_paths};
 ghost use Rattle.dp_node.specs.Calls.{call, terms, is_private};
 
 use crate::error::NodeError;
@@ -90,12 +91,12 @@ impl<W, H: Host<W>, R: Repo<W>, D: Draw> Lent<'_, '_, '_, '_, '_, W, H, R, D> {
         requires floor { (H.state self.old.host.now).floor ≡ sight.now.ring.list }
         requires looked { (H.state self.old.host.now).looked ≡ sight.now.ring }
         requires in_line { Agree (H.state self.old.host.now).own sight.now.ring.list }
-        requires room { length self.old.steps.now + 5 ≤ 24 }
+        requires room { length self.old.steps.now + 5 ≤ MAX_STEPS }
         ensures did { (before : Option (List Element)) →
             Grows before (R.store self.old.repo.now).list →
             Does (FlightGives (terms at.now (H.state self.old.host.now).facts.options
             false before (R.store self.new.repo.now).list) (longer (H.state self.old.host.now).own
-            sight.now.ring.list) (sight_of sight.now) (seen result))
+            sight.now.ring.list) (sight_of sight.now) (in_paths result))
             (books_of H.state R.store D.draws self.old)
             (books_of H.state R.store D.draws self.new) }
         ensures steady { Steady (H.state self.old.host.now) (H.state self.new.host.now) }
@@ -145,10 +146,10 @@ impl<W, H: Host<W>, R: Repo<W>, D: Draw> Lent<'_, '_, '_, '_, '_, W, H, R, D> {
         requires moment { at.now ≤ LAST }
         requires held { (H.state self.old.host.now).held ≡ true }
         requires target { target ≡ max at.need (length (H.state self.old.host.now).own) }
-        requires room { length self.old.steps.now + 7 ≤ 24 }
+        requires room { length self.old.steps.now + 7 ≤ MAX_STEPS }
         ensures did { (missing : Option KeyId) (before : Option (List Element)) →
             Grows before (R.store self.old.repo.now).list → Does (TurnGives (call at missing
-            (H.state self.old.host.now) before (R.store self.new.repo.now).list) (seen result))
+            (H.state self.old.host.now) before (R.store self.new.repo.now).list) (in_paths result))
             (books_of H.state R.store D.draws self.old)
             (books_of H.state R.store D.draws self.new) }
         ensures steady { Steady (H.state self.old.host.now) (H.state self.new.host.now) }
@@ -173,7 +174,7 @@ impl<W, H: Host<W>, R: Repo<W>, D: Draw> Lent<'_, '_, '_, '_, '_, W, H, R, D> {
         requires room { self.old.steps.now ≡ [] }
         ensures did { (missing : Option KeyId) → Does (PathGives (call at missing
             (H.state self.old.host.now) (R.store self.old.repo.now).list
-            (R.store self.new.repo.now).list) (seen result))
+            (R.store self.new.repo.now).list) (in_paths result))
             (books_of H.state R.store D.draws self.old)
             (books_of H.state R.store D.draws self.new) }
         ensures steady { Steady (H.state self.old.host.now) (H.state self.new.host.now) }
@@ -218,7 +219,7 @@ impl<W, H: Host<W>, R: Repo<W>, D: Draw> Lent<'_, '_, '_, '_, '_, W, H, R, D> {
         requires free { (H.state self.old.host.now).held ≡ false }
         requires room { self.old.steps.now ≡ [] }
         ensures path { Does (CallPath (call at missing (H.state self.old.host.now)
-            (R.store self.old.repo.now).list (R.store self.new.repo.now).list) (seen result)
+            (R.store self.old.repo.now).list (R.store self.new.repo.now).list) (in_paths result)
             (H.state self.new.host.now).own)
             (books [] (H.state self.old.host.now) (R.store self.old.repo.now)
             (D.draws self.old.draw.now)) (books_of H.state R.store D.draws self.new) }
@@ -227,7 +228,7 @@ impl<W, H: Host<W>, R: Repo<W>, D: Draw> Lent<'_, '_, '_, '_, '_, W, H, R, D> {
         ensures enough { IfOk result (λ ring. at.need ≤ length ring.list) }
         ensures looked { IfOk result (λ ring. is_private self.new.steps.now ≡ false →
             (H.state self.new.host.now).looked ≡ ring) }
-        ensures few { length self.new.steps.now ≤ 24 }
+        ensures few { length self.new.steps.now ≤ MAX_STEPS }
         ensures loans { SameLoans self.old self.new }
     {
         let target = at.need.max(self.host.own().len());
@@ -264,7 +265,7 @@ pub fn ring_for<W, H: Host<W>, R: Repo<W>, D: Draw>(
     requires free { (H.state host.old).held ≡ false }
     requires room { steps.old ≡ [] }
     ensures path { Does (CallPath (call at missing (H.state host.old) (R.store repo.old).list
-        (R.store repo.new).list) (seen result) (H.state host.new).own)
+        (R.store repo.new).list) (in_paths result) (H.state host.new).own)
         (books [] (H.state host.old) (R.store repo.old) (D.draws draw.old))
         (books steps.new (H.state host.new) (R.store repo.new) (D.draws draw.new)) }
     ensures free { (H.state host.new).held ≡ false }
@@ -272,7 +273,7 @@ pub fn ring_for<W, H: Host<W>, R: Repo<W>, D: Draw>(
     ensures enough { IfOk result (λ ring. at.need ≤ length ring.list) }
     ensures looked { IfOk result (λ ring. is_private steps.new ≡ false →
         (H.state host.new).looked ≡ ring) }
-    ensures few { length steps.new ≤ 24 }
+    ensures few { length steps.new ≤ MAX_STEPS }
 {
     let mut lent = Lent {
         w,

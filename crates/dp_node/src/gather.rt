@@ -13,13 +13,14 @@ ghost use Rattle.key_elements.specs.Lists.{Extends};
 ghost use Rattle.key_ring.specs.Ring.{preferred_key};
 ghost use Rattle.repo_keeper.specs.Store.{Store, Grows};
 ghost use Rattle.repo_keeper.specs.Made.{key_of_draw, AreBadDates};
+ghost use Rattle.ring_world.specs.declared.step.TheConstants.{MAX_STEPS};
 ghost use Rattle.ring_world.specs.Flight.{Gathers, activation_of, jitter_of, makes_key};
 ghost use Rattle.dp_node.specs.declared.error.NodeError.TheVariants.{BadDates};
 ghost use Rattle.dp_node.specs.HostState.{HostState};
 ghost use Rattle.dp_node.specs.Books.{books, Does};
 ghost use Rattle.dp_node.specs.Calls.{terms};
 ghost use Rattle.dp_node.specs.Lent.{SameSources, books_by};
-ghost use Rattle.dp_node.specs.Gather.{IsKeyElement, goes_on, refusal, refused_as, refusal_steps, read_step, seen, Reads, DrawGives, KeyGives, Appends};
+ghost use Rattle.dp_node.specs.Gather.{IsKeyElement, goes_on, refusal, refused_as, refusal_steps, read_step, in_paths, ReadGives, DrawGives, KeyGives, AppendGives};
 
 use crate::error::NodeError;
 use crate::lent::Sources;
@@ -45,7 +46,7 @@ fn grown(alloc: Global, list: &ElementList, tail: Vec<Element>) -> Result<Elemen
 
 // Records the step that a refusal of the repository is, and gives the error.
 fn refused(known: u64, why: RepoError, failed: Step, steps: &mut StepList) -> NodeError
-    requires { length steps.old + 1 ≤ 24 }
+    requires { length steps.old + 1 ≤ MAX_STEPS }
     ensures error { refusal result ≡ refused_as known why }
     ensures steps { steps.new ≡ steps.old ++ refusal_steps known failed why }
     ensures room { length steps.new ≤ length steps.old + 1 }
@@ -93,9 +94,9 @@ pub(crate) fn read_on<W, R: Repo<W>>(
     private: bool,
     steps: &mut StepList,
 ) -> Result<ElementList, NodeError>
-    requires { length steps.old + 1 ≤ 24 }
-    ensures did { (host : HostState) (draws : DrawState) → Does (Reads private
-        (R.store repo.new).list base.now (seen result))
+    requires { length steps.old + 1 ≤ MAX_STEPS }
+    ensures did { (host : HostState) (draws : DrawState) → Does (ReadGives private
+        (R.store repo.new).list base.now (in_paths result))
         (books steps.old host (R.store repo.old) draws) (books steps.new host
         (R.store repo.new) draws) }
     ensures room { length steps.new ≤ length steps.old + 1 }
@@ -112,8 +113,8 @@ pub(crate) fn read_on<W, R: Repo<W>>(
 
 /// Draws the eight bytes of a jitter.
 pub(crate) fn draw_word<D: Draw>(draw: &mut D, steps: &mut StepList) -> Result<[u8; 8], NodeError>
-    requires { length steps.old + 1 ≤ 24 }
-    ensures did { (host : HostState) (store : Store) → Does (DrawGives 8 (seen result))
+    requires { length steps.old + 1 ≤ MAX_STEPS }
+    ensures did { (host : HostState) (store : Store) → Does (DrawGives 8 (in_paths result))
         (books steps.old host store (D.draws draw.old)) (books steps.new host store
         (D.draws draw.new)) }
     ensures room { length steps.new ≤ length steps.old + 1 }
@@ -141,10 +142,10 @@ pub(crate) fn append_on<W, R: Repo<W>>(
     element: &Element,
     steps: &mut StepList,
 ) -> Result<ElementList, NodeError>
-    requires room { length steps.old + 1 ≤ 24 }
+    requires room { length steps.old + 1 ≤ MAX_STEPS }
     requires element { IsElement element.now }
-    ensures did { (host : HostState) (draws : DrawState) → Does (Appends
-        (R.store repo.new).list list.now element.now (seen result))
+    ensures did { (host : HostState) (draws : DrawState) → Does (AppendGives
+        (R.store repo.new).list list.now element.now (in_paths result))
         (books steps.old host (R.store repo.old) draws) (books steps.new host
         (R.store repo.new) draws) }
     ensures room { length steps.new ≤ length steps.old + 1 }
@@ -192,10 +193,10 @@ pub(crate) fn draw_key<D: Draw>(
     alg: Alg,
     steps: &mut StepList,
 ) -> Result<Element, NodeError>
-    requires room { length steps.old + 1 ≤ 24 }
+    requires room { length steps.old + 1 ≤ MAX_STEPS }
     ensures did { (AreBadDates creation activation expiration → ⊥) → (host : HostState)
         (store : Store) → Does (KeyGives
-        (λ b. key_of_draw b creation activation expiration (code_of alg)) (seen result))
+        (λ b. key_of_draw b creation activation expiration (code_of alg)) (in_paths result))
         (books steps.old host store (D.draws draw.old)) (books steps.new host store
         (D.draws draw.new)) }
     ensures bad_dates { (result ≡ Err BadDates) ↔ AreBadDates creation activation expiration }
@@ -248,11 +249,11 @@ impl<W, R: Repo<W>, D: Draw> Sources<'_, '_, '_, '_, W, R, D> {
         options: &Options,
         opening: bool,
     ) -> Result<Ring, NodeError>
-        requires room { length self.old.steps.now + 4 ≤ 24 }
+        requires room { length self.old.steps.now + 4 ≤ MAX_STEPS }
         requires moment { now ≤ LAST }
         ensures did { (host : HostState) (before : Option (List Element)) →
             Grows before (R.store self.old.repo.now).list → Does (Gathers (terms now options.now
-            opening before (R.store self.new.repo.now).list) base.now (seen result))
+            opening before (R.store self.new.repo.now).list) base.now (in_paths result))
             (books_by R.store D.draws host self.old) (books_by R.store D.draws host self.new) }
         ensures room { length self.new.steps.now ≤ length self.old.steps.now + 4 }
         ensures extends { IfOk result (λ ring. Extends ring.list base.now) }

@@ -3,7 +3,7 @@
 ghost use Rattle.std.specs.Prelude.{◌≡◌, true, false, IfOk, OnOk, OnErr};
 ghost use Rattle.key_elements.specs.Lists.{Extends};
 ghost use Rattle.ring_world.specs.declared.step.Step.TheVariants.{Want};
-ghost use Rattle.dp_node.specs.HostState.{HostState, Told, acted, looked_at, published, gave, raised, Shows, Answers, Takes};
+ghost use Rattle.dp_node.specs.HostState.{HostState, Told, acted, looked_at, published, gave, raised, MayShow, MayWant, Takes};
 
 use crate::error::ToldRefused;
 use default_key::Options;
@@ -52,13 +52,13 @@ pub trait HostView {
 
     /// The ring of the node.
     fn look(&mut self) -> Result<Ring, Memory>
-        ensures ring { IfOk result (λ ring. Shows ring (state self.old)) }
+        ensures ring { IfOk result (λ ring. MayShow ring (state self.old)) }
         ensures ok { IfOk result (λ ring. state self.new ≡ looked_at ring (state self.old)) }
         ensures err { OnErr result (state self.new ≡ state self.old) };
 
     /// The want number of the node: how many elements its ring is to have.
     fn want(&mut self) -> u64
-        ensures number { Answers result (state self.old) }
+        ensures number { MayWant result (state self.old) }
         ensures act { state self.new ≡ acted (Want result) (state self.old) };
 
     /// Makes the want number the greater of itself and `n`.

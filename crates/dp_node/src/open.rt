@@ -8,7 +8,7 @@ ghost use Rattle.ring_world.specs.Flight.{Gathers, Refusal};
 ghost use Rattle.dp_node.specs.HostState.{HostState};
 ghost use Rattle.dp_node.specs.Books.{books, Does};
 ghost use Rattle.dp_node.specs.Calls.{terms};
-ghost use Rattle.dp_node.specs.Opening.{Opens, first_facts, refused_as};
+ghost use Rattle.dp_node.specs.Opening.{OpeningGives, first_facts, refused_as};
 
 use crate::error::NodeError;
 use crate::host::NodeFacts;
@@ -69,7 +69,7 @@ impl Solo {
         options: Options,
     ) -> Result<Solo, OpenRefused>
         requires moment { now ≤ LAST }
-        ensures opened { (r : Result RingOf Refusal) × (steps : List Step) × Opens
+        ensures opened { (r : Result RingOf Refusal) × (steps : List Step) × OpeningGives
             (first_facts now options) result r
             × ((host : HostState) → Does (Gathers (terms now options true
             (R.store repo.old).list (R.store repo.new).list) [] r)

@@ -9,10 +9,11 @@ ghost use Rattle.key_elements.specs.Record.{IsElement};
 ghost use Rattle.key_elements.specs.Lists.{Extends};
 ghost use Rattle.repo_keeper.specs.Store.{EndsWith};
 ghost use Rattle.repo_keeper.specs.Made.{key_of_draw, AreBadDates};
+ghost use Rattle.ring_world.specs.declared.step.TheConstants.{MAX_STEPS};
 ghost use Rattle.ring_world.specs.Placing.{PlacePath};
 ghost use Rattle.dp_node.specs.declared.error.NodeError.TheVariants.{BadDates};
 ghost use Rattle.dp_node.specs.Books.{books, Does};
-ghost use Rattle.dp_node.specs.Gather.{IsKeyElement, seen};
+ghost use Rattle.dp_node.specs.Gather.{IsKeyElement, in_paths};
 ghost use Rattle.dp_node.specs.Places.{asked, placed, EndsWithKey, IsIdOf};
 
 use crate::error::NodeError;
@@ -41,10 +42,10 @@ fn place_on<W, H: Host<W>, R: Repo<W>>(
     element: &Element,
     steps: &mut StepList,
 ) -> Result<u64, NodeError>
-    requires room { length steps.old + 3 ≤ 24 }
+    requires room { length steps.old + 3 ≤ MAX_STEPS }
     requires element { IsElement element.now }
     ensures did { (draws : DrawState) → Does (PlacePath (asked (H.state host.old).own false
-        (λ _. element.now) (R.store repo.new).list) (seen result) (H.state host.new).own)
+        (λ _. element.now) (R.store repo.new).list) (in_paths result) (H.state host.new).own)
         (books steps.old (H.state host.old) (R.store repo.old) draws)
         (books steps.new (H.state host.new) (R.store repo.new) draws) }
     ensures last { IfOk result (λ _. EndsWith element.now (H.state host.new).own) }
@@ -101,7 +102,7 @@ pub fn roll<W, H: Host<W>, R: Repo<W>, D: Draw>(
     ensures unchanged { OnErr result (host.new ≡ host.old) }
     ensures held { (H.state host.new).held ≡ (H.state host.old).held }
     ensures grows { Extends (H.state host.new).own (H.state host.old).own }
-    ensures few { length steps.new ≤ 24 }
+    ensures few { length steps.new ≤ MAX_STEPS }
 {
     let key = draw_key(draw, now, activation, expiration, alg, steps)?;
     let id = id_of(&key);
@@ -124,14 +125,14 @@ pub fn revoke<W, H: Host<W>, R: Repo<W>>(
     requires moment { now ≤ LAST }
     requires room { steps.old ≡ [] }
     ensures path { (draws : DrawState) → Does (PlacePath (asked (H.state host.old).own false
-        (λ _. RevokeKey id now reason) (R.store repo.new).list) (seen result)
+        (λ _. RevokeKey id now reason) (R.store repo.new).list) (in_paths result)
         (H.state host.new).own)
         (books [] (H.state host.old) (R.store repo.old) draws)
         (books steps.new (H.state host.new) (R.store repo.new) draws) }
     ensures unchanged { OnErr result (host.new ≡ host.old) }
     ensures held { (H.state host.new).held ≡ (H.state host.old).held }
     ensures grows { Extends (H.state host.new).own (H.state host.old).own }
-    ensures few { length steps.new ≤ 24 }
+    ensures few { length steps.new ≤ MAX_STEPS }
 {
     let Ok(element) = revocation(id, now, reason) else {
         unreachable!()
@@ -153,7 +154,7 @@ pub fn revoke_before<W, H: Host<W>, R: Repo<W>>(
     requires room { steps.old ≡ [] }
     ensures path { (date ≤ MAX_TICKS) → (draws : DrawState) → Does (PlacePath (asked
         (H.state host.old).own false (λ _. RevokeBefore date reason) (R.store repo.new).list)
-        (seen result) (H.state host.new).own)
+        (in_paths result) (H.state host.new).own)
         (books [] (H.state host.old) (R.store repo.old) draws)
         (books steps.new (H.state host.new) (R.store repo.new) draws) }
     ensures bad_dates { (result ≡ Err BadDates) ↔ (MAX_TICKS < date) }
@@ -162,7 +163,7 @@ pub fn revoke_before<W, H: Host<W>, R: Repo<W>>(
     ensures unchanged { OnErr result (host.new ≡ host.old) }
     ensures held { (H.state host.new).held ≡ (H.state host.old).held }
     ensures grows { Extends (H.state host.new).own (H.state host.old).own }
-    ensures few { length steps.new ≤ 24 }
+    ensures few { length steps.new ≤ MAX_STEPS }
 {
     match mass_revocation(date, reason) {
         Ok(element) => place_on(w, alloc, host, repo, &element, steps),

@@ -6,12 +6,12 @@ ghost use Rattle.dp_base.specs.declared.ticks.TheConstants.{LAST};
 ghost use Rattle.key_elements.specs.declared.element.Element.{Element};
 ghost use Rattle.key_elements.specs.Lists.{Extends};
 ghost use Rattle.repo_keeper.specs.Store.{Grows};
-ghost use Rattle.ring_world.specs.declared.step.TheConstants.{SECOND_TRY_SPAN};
+ghost use Rattle.ring_world.specs.declared.step.TheConstants.{MAX_STEPS, SECOND_TRY_SPAN};
 ghost use Rattle.ring_world.specs.Settle.{reads, any_reads, lacks, lacks_named, misses, SecondGives, SettleGives};
 ghost use Rattle.dp_node.specs.HostState.{HostState, Steady};
 ghost use Rattle.dp_node.specs.Books.{Does};
 ghost use Rattle.dp_node.specs.Lent.{SameLoans, books_of};
-ghost use Rattle.dp_node.specs.Gather.{seen};
+ghost use Rattle.dp_node.specs.Gather.{in_paths};
 ghost use Rattle.dp_node.specs.Calls.{call, is_private};
 
 use crate::call::At;
@@ -79,10 +79,10 @@ impl<W, H: Host<W>, R: Repo<W>, D: Draw> Lent<'_, '_, '_, '_, '_, W, H, R, D> {
     fn fly_again(&mut self, at: At) -> Result<Ring, NodeError>
         requires moment { at.now ≤ LAST }
         requires held { (H.state self.old.host.now).held ≡ true }
-        requires room { length self.old.steps.now + 7 ≤ 24 }
+        requires room { length self.old.steps.now + 7 ≤ MAX_STEPS }
         ensures did { (missing : Option KeyId) (before : Option (List Element)) →
             Grows before (R.store self.old.repo.now).list → Does (SecondGives (call at missing
-            (H.state self.old.host.now) before (R.store self.new.repo.now).list) (seen result))
+            (H.state self.old.host.now) before (R.store self.new.repo.now).list) (in_paths result))
             (books_of H.state R.store D.draws self.old)
             (books_of H.state R.store D.draws self.new) }
         ensures steady { Steady (H.state self.old.host.now) (H.state self.new.host.now) }
@@ -108,11 +108,11 @@ impl<W, H: Host<W>, R: Repo<W>, D: Draw> Lent<'_, '_, '_, '_, '_, W, H, R, D> {
         requires extends { Extends found.list (H.state self.old.host.now).own }
         requires looked { is_private self.old.steps.now ≡ false →
             (H.state self.old.host.now).looked ≡ found }
-        requires room { length self.old.steps.now + 9 ≤ 24 }
+        requires room { length self.old.steps.now + 9 ≤ MAX_STEPS }
         ensures did { (before : Option (List Element)) →
             Grows before (R.store self.old.repo.now).list → Does (SettleGives (call at missing
             (H.state self.old.host.now) before (R.store self.new.repo.now).list)
-            self.old.steps.now found (seen result))
+            self.old.steps.now found (in_paths result))
             (books_of H.state R.store D.draws self.old)
             (books_of H.state R.store D.draws self.new) }
         ensures kept { (before : Option (List Element)) → misses (call at missing

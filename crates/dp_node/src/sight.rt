@@ -2,9 +2,10 @@
 
 ghost use Rattle.std.specs.Prelude.{◌≡◌, ◌+◌, ◌≤◌, ◌++◌, length, IfOk, IfErr};
 ghost use Rattle.key_elements.specs.Lists.{Agree};
+ghost use Rattle.ring_world.specs.declared.step.TheConstants.{MAX_STEPS};
 ghost use Rattle.ring_world.specs.Flight.{look_step, sight_steps};
 ghost use Rattle.ring_world.specs.Path.{is_enough_for};
-ghost use Rattle.dp_node.specs.HostState.{Shows};
+ghost use Rattle.dp_node.specs.HostState.{MayShow};
 ghost use Rattle.dp_node.specs.Sight.{sight_of, sighted, SeenBy, LookRefused};
 
 use crate::error::{Fork, NodeError};
@@ -56,7 +57,7 @@ pub(crate) fn fork(at: u64, own: &ElementList, other: &ElementList) -> Result<Fo
 /// Asks the want number and looks, once each. A ring whose list differs from the own one is
 /// refused.
 pub(crate) fn look_once<H: HostView>(host: &mut H, steps: &mut StepList) -> Result<Sight, NodeError>
-    requires { length steps.old + 2 ≤ 24 }
+    requires { length steps.old + 2 ≤ MAX_STEPS }
     ensures host { IfOk result (λ s. H.state host.new ≡ sighted (sight_of s) (H.state host.old)) }
     ensures steps { IfOk result (λ s. steps.new ≡ steps.old ++ sight_steps (sight_of s)) }
     ensures shows { IfOk result (λ s. SeenBy (sight_of s) (H.state host.old)) }

@@ -16,7 +16,7 @@ use Rattle.dp_node.specs.declared.open.OpenRefused.TheVariants as refused
 use Rattle.dp_node.specs.HostState.{HostState}
 use Rattle.dp_node.specs.Books.{books, Does}
 use Rattle.dp_node.specs.Calls.{terms}
-use Rattle.dp_node.specs.Opening.{Opens, first_facts}
+use Rattle.dp_node.specs.Opening.{OpeningGives, first_facts}
 use Rattle.dp_session.specs.declared.status.Status.{Status}
 use Rattle.dp_session.specs.declared.status.Status.TheVariants as status
 use Rattle.dp_session.specs.Fresh.{AreFresh, AreCountedBy}
@@ -52,7 +52,7 @@ pub record IsOpening (auto : Bool) (opened : Result HostState OpenRefused) (old 
   pub standard : AreStandard auto options
   pub ring : Result RingOf Refusal
   pub steps : List Step
-  pub opens : Opens (first_facts (min moment LAST) options) opened ring
+  pub opens : OpeningGives (first_facts (min moment LAST) options) opened ring
   pub did : (host : HostState) → Does (Gathers (terms (min moment LAST) options true old.store.list new.store.list) [] ring) (books [] host old.store old.draws) (books steps host new.store new.draws)
   pub input : new.input ≡ old.input
   pub output : new.output ≡ old.output
@@ -74,9 +74,9 @@ pub record IsServed (app : List ℕ) (host : HostState) (end : Outcome) (mid new
   pub shut : (bodies : List (List ℕ)) → AreShut app bodies end.trace.entries end.trace.list
 
 -- what follows the opening: a session of the node; or nothing
-abbrev pub Follows : List ℕ → Result HostState OpenRefused → Outcome → Around → Around → Type 0
-Follows app (Ok host) end mid new = IsServed app host end mid new
-Follows app (Err why) end mid new =
+abbrev pub ComesAfterOpening : List ℕ → Result HostState OpenRefused → Outcome → Around → Around → Type 0
+ComesAfterOpening app (Ok host) end mid new = IsServed app host end mid new
+ComesAfterOpening app (Err why) end mid new =
     (new ≡ mid) × (end.status ≡ status_of why) × (end.bad ≡ None)
     × (end.trace.entries ≡ []) × (end.trace.list ≡ [])
 
@@ -85,4 +85,4 @@ pub record Pipes (auto : Bool) (app : List ℕ) (end : Outcome) (old new : Aroun
   pub opened : Result HostState OpenRefused
   pub mid : Around
   pub opening : IsOpening auto opened old mid
-  pub follows : Follows app opened end mid new
+  pub follows : ComesAfterOpening app opened end mid new

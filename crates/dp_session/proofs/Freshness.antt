@@ -36,7 +36,7 @@ use Rattle.dp_session.specs.declared.trace.Used.{Used}
 use Rattle.dp_session.specs.declared.trace.Used.TheVariants as used
 use Rattle.dp_session.specs.Fresh.{IsFresh, IsFreshUse, AreFresh, AreCounted, IsCounted, AreCountedBy, all_steps, draw_faults, no_memory}
 use Rattle.dp_session.specs.Needs.{need_of}
-use Rattle.dp_session.specs.Serving.{State, IsEntry, Serves, unread, unstarted, misdated, by_ring, by_place, Follows, refused, answered as answered_by, undrawn, stopped, lost, unheard, IsByPlace, IsNeed, before, after, Asks}
+use Rattle.dp_session.specs.Serving.{SessionState, IsEntry, Serves, unread, unstarted, misdated, by_ring, by_place, Follows, refused, answered as answered_by, undrawn, stopped, lost, unheard, IsByPlace, IsNeed, before, after, Asks}
 use Rattle.dp_session.specs.Session.{Chain, front_of, has_list}
 use Rattle.dp_session.proofs.Paths.{placed_last}
 use Rattle.dp_session.proofs.Sessions.{HasFront, serves_front}
@@ -134,7 +134,7 @@ serves_placed q now u drawn old new place (by_place p e good a asks r x d v) h =
     let last = placed_last a place new.host.own x.course (subst (λ (y : Result ℕ Refusal). PlacePath a y new.host.own x.course) (subst (IsByPlace r) h v) x.is) in
     (ap need_of e ∙ asks_none p now old.host.own new.store.list a asks, omega (arith, last.behind, ap length (asks_own p now old.host.own new.store.list a asks)))
 
-entry_fresh : (b : List ℕ) (e : Entry) (old new : State) → IsEntry b e old new → IsFresh e
+entry_fresh : (b : List ℕ) (e : Entry) (old new : SessionState) → IsEntry b e old new → IsFresh e
 entry_fresh b e old new p = by e.used refl
   where
     needs : has_list e.used ≡ true → e.need ≡ need_of (request_at b)
@@ -154,7 +154,7 @@ entry_fresh b e old new p = by e.used refl
     by (used.BadRequest place) is = tt
     by used.NoMemory is = tt
 
-pub chain_fresh : (n : ℕ) (bodies : List (List ℕ)) (es : List Entry) (old new : State) → n ≤ length old.host.own → Chain bodies es old new → AreFresh n es
+pub chain_fresh : (n : ℕ) (bodies : List (List ℕ)) (es : List Entry) (old new : SessionState) → n ≤ length old.host.own → Chain bodies es old new → AreFresh n es
 chain_fresh n [] [] old new le p = tt
 chain_fresh n [] (e ∷ es) old new le p = absurd p
 chain_fresh n (b ∷ bodies) [] old new le p = absurd p
@@ -450,7 +450,7 @@ placed_counts a r own d used.NoMemory old new x draws v = record { refused = tt;
 -- what one request counted
 record CountsOf (u : Used) (steps : List Step) (old new : Books) : Type 0 where
   acts : latest new.host.acts ≡ latest (old.host.acts ++ acts (length old.host.looked.list) steps)
-  looked : length new.host.looked.list ≡ node.front_of (length old.host.looked.list) steps
+  looked : length new.host.looked.list ≡ node.looked_count (length old.host.looked.list) steps
   calls : (k : ℕ) × (k ≤ no_memory u) × (new.store.calls ≡ more ((tally steps).calls + k) old.store.calls)
   faults : new.store.faults ≡ more (tally steps).faults old.store.faults
   shorts : new.store.shorts ≡ more (tally steps).shorts old.store.shorts
@@ -503,15 +503,15 @@ both_some i j l m a b c p q =
     let sum : (i + p.0) + (j + q.0) ≡ i + j + (p.0 + q.0) = omega arith in
     (p.0 + q.0, omega (arith, p.1, q.1), then_more (i + p.0) (j + q.0) a b c p.2 q.2 ∙ ap (λ (t : ℕ). more t a) sum)
 
-pub chain_counts : (bodies : List (List ℕ)) (es : List Entry) (old new : State) → Chain bodies es old new → AreCountedBy es old new
+pub chain_counts : (bodies : List (List ℕ)) (es : List Entry) (old new : SessionState) → Chain bodies es old new → AreCountedBy es old new
 chain_counts [] [] old new p = record {
-  acts = ap (λ (s : State). latest s.host.acts) p ∙ ap latest (sym (append-nil old.host.acts));
-  calls = (0, omega arith, ap (λ (s : State). s.store.calls) p);
-  faults = ap (λ (s : State). s.store.faults) p;
-  shorts = ap (λ (s : State). s.store.shorts) p;
-  fulls = ap (λ (s : State). s.store.fulls) p;
-  mine = ap (λ (s : State). s.store.mine) p ∙ sym (append-nil old.store.mine);
-  draws = (0, omega arith, ap (λ (s : State). s.draws.faults) p);
+  acts = ap (λ (s : SessionState). latest s.host.acts) p ∙ ap latest (sym (append-nil old.host.acts));
+  calls = (0, omega arith, ap (λ (s : SessionState). s.store.calls) p);
+  faults = ap (λ (s : SessionState). s.store.faults) p;
+  shorts = ap (λ (s : SessionState). s.store.shorts) p;
+  fulls = ap (λ (s : SessionState). s.store.fulls) p;
+  mine = ap (λ (s : SessionState). s.store.mine) p ∙ sym (append-nil old.store.mine);
+  draws = (0, omega arith, ap (λ (s : SessionState). s.draws.faults) p);
   refused = tt;
 }
 chain_counts [] (e ∷ es) old new p = absurd p

@@ -29,19 +29,19 @@ use Rattle.dp_session.specs.declared.trace.Used.{Used}
 use Rattle.dp_session.specs.declared.trace.Used.TheVariants as used
 use Rattle.dp_session.specs.Frames.{frames, AreBodies, RefusesFrame}
 use Rattle.dp_session.specs.Replies.{reply_to}
-use Rattle.dp_session.specs.Serving.{State, IsEntry, Serves, unread, unstarted, misdated, by_ring, by_place, Follows, IsByPlace, refused, answered, undrawn, stopped, lost, unheard}
+use Rattle.dp_session.specs.Serving.{SessionState, IsEntry, Serves, unread, unstarted, misdated, by_ring, by_place, Follows, IsByPlace, refused, answered, undrawn, stopped, lost, unheard}
 use Rattle.dp_session.proofs.Paths.{own_by_ring, placed_last}
 use Rattle.dp_session.proofs.Turns.{length-frame}
 use Rattle.dp_session.specs.Session.{Chain, front_of, longest, reply_frame, session_output, IsListAfter, Outside, outside, OneMore, has_list, any_list, IsLongest, SoFar, IsSession, NoMore, EndsAt, EndsInput, EndsOutput, IsSpentEnd, bad_at}
 
 -- one entry more
-chain-more : (bodies : List (List ℕ)) (es : List Entry) (a b c : State) (body : List ℕ) (e : Entry) → Chain bodies es a b → IsEntry body e b c → Chain (bodies ++ body ∷ []) (es ++ e ∷ []) a c
-chain-more [] [] a b c body e p q = (c, subst (λ (s : State). IsEntry body e s c) p q, refl)
+chain-more : (bodies : List (List ℕ)) (es : List Entry) (a b c : SessionState) (body : List ℕ) (e : Entry) → Chain bodies es a b → IsEntry body e b c → Chain (bodies ++ body ∷ []) (es ++ e ∷ []) a c
+chain-more [] [] a b c body e p q = (c, subst (λ (s : SessionState). IsEntry body e s c) p q, refl)
 chain-more [] (x ∷ es) a b c body e p q = absurd p
 chain-more (x ∷ bodies) [] a b c body e p q = absurd p
 chain-more (x ∷ bodies) (y ∷ es) a b c body e p q = (p.0, p.1, chain-more bodies es p.0 b c body e p.2 q)
 
-pub same_lengths : (bodies : List (List ℕ)) (es : List Entry) (a b : State) → Chain bodies es a b → length bodies ≡ length es
+pub same_lengths : (bodies : List (List ℕ)) (es : List Entry) (a b : SessionState) → Chain bodies es a b → length bodies ≡ length es
 same_lengths [] [] a b p = refl
 same_lengths [] (y ∷ es) a b p = absurd p
 same_lengths (x ∷ bodies) [] a b p = absurd p
@@ -244,7 +244,7 @@ with_input i a = record a { input = i }
 unserved : (a b : Outside) → NoMore a b → with_input b.input a ≡ b
 unserved a b same =
     ap (λ (o : Option (List ℕ)). outside b.input o a.state a.entries a.list) (sym same.output)
-    ∙ ap (λ (s : State). outside b.input b.output s a.entries a.list) (sym same.state)
+    ∙ ap (λ (s : SessionState). outside b.input b.output s a.entries a.list) (sym same.state)
     ∙ ap (λ (es : List Entry). outside b.input b.output b.state es a.list) (sym same.entries)
     ∙ ap (λ (l : List Element). outside b.input b.output b.state b.entries l) (sym same.list)
 
@@ -292,7 +292,7 @@ session_spent app status.DrawFault old a after n p is e = absurd is
 session_spent app status.NoMemory old a after n p is e = absurd is
 
 -- no request was served yet
-pub so_far-none : (app : List ℕ) (i o : Option (List ℕ)) (s : State) → SoFar app (outside i o s [] []) (outside i o s [] []) 0
+pub so_far-none : (app : List ℕ) (i o : Option (List ℕ)) (s : SessionState) → SoFar app (outside i o s [] []) (outside i o s [] []) 0
 so_far-none app i o s = record {
   bodies = [];
   fit = tt;

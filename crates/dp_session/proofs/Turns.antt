@@ -21,12 +21,12 @@ use Rattle.dp_wire.specs.Reading.{request_at}
 use Rattle.dp_session.specs.declared.response.Response.{Response}
 use Rattle.dp_session.specs.Needs.{need_of}
 use Rattle.dp_session.specs.Replies.{reply_to}
-use Rattle.dp_session.specs.Serving.{State, state, Serves, Served, before, after, IsListOf}
+use Rattle.dp_session.specs.Serving.{SessionState, state, Serves, Served, before, after, IsListOf}
 use Rattle.dp_session.specs.Turns.{turn_of, list_after, reply_bytes, IsTurn}
 use Rattle.dp_session.specs.Session.{outside, IsListAfter, OneServed, OneMore}
 use Rattle.dp_session.proofs.Drawing.{drew}
 
-pub answered_turn : (app bytes : List ℕ) (now need seen : ℕ) (steps : List Step) (drawn : List ℕ) (old new : State) (r : Result Response Memory) → Served app (request_at bytes) now r drawn (before old) (after steps new) → need ≡ need_of (request_at bytes) → seen ≡ length old.host.own → Extends new.host.own old.host.own
+pub answered_turn : (app bytes : List ℕ) (now need seen : ℕ) (steps : List Step) (drawn : List ℕ) (old new : SessionState) (r : Result Response Memory) → Served app (request_at bytes) now r drawn (before old) (after steps new) → need ≡ need_of (request_at bytes) → seen ≡ length old.host.own → Extends new.host.own old.host.own
     → IsTurn app bytes now (turn_of r now need seen steps drawn) old new
 answered_turn app bytes now need seen steps drawn old new (Ok a) s n l grows = record {
   moment = refl;
@@ -91,7 +91,7 @@ unfolding frame
 length-frame bytes = length-append (to_be_bytes w32 (length bytes)) bytes
 
 -- a frame that was read, and then served
-pub one_more : (app : List ℕ) (writes : Writing) (i i' o o' : Option (List ℕ)) (s s' : State) (es0 es es' : List Entry) (l l' : List Element) (len n : ℕ) (bytes : List ℕ) → IsBodyLen (length bytes) → len ≡ length bytes → Consumes i i' (frame bytes) → n ≡ 4 + len → es ≡ es0
+pub one_more : (app : List ℕ) (writes : Writing) (i i' o o' : Option (List ℕ)) (s s' : SessionState) (es0 es es' : List Entry) (l l' : List Element) (len n : ℕ) (bytes : List ℕ) → IsBodyLen (length bytes) → len ≡ length bytes → Consumes i i' (frame bytes) → n ≡ 4 + len → es ≡ es0
     → OneServed app writes bytes (outside None o s es l) (outside None o' s' es' l') → OneMore app writes (outside i o s es0 l) (outside i' o' s' es' l') n
 one_more app writes i i' o o' s s' es0 es es' l l' len n bytes fits same read count kept one = record {
   body = bytes;

@@ -12,7 +12,7 @@ use Rattle.dp_node.specs.Gather.{refusal}
 use Rattle.dp_session.specs.declared.trace.Entry.{Entry}
 use Rattle.dp_session.specs.declared.trace.Used.{Used}
 use Rattle.dp_session.specs.declared.trace.Used.TheVariants as used
-use Rattle.dp_session.specs.Serving.{State}
+use Rattle.dp_session.specs.Serving.{SessionState}
 use Rattle.dp_session.specs.Session.{front_of}
 
 -- a ring has as many elements as were needed, and as were seen before; what is placed needs none, and
@@ -81,7 +81,7 @@ all_steps es = flat_map (λ e. e.steps) es
 -- counts of repository and draw rose by what these steps say, those of the repository's calls and of the
 -- draw's faults also by one at the most for each request that found no memory, and the latter for the
 -- payloads; the places are those of their appends, and each refusal that has a count has it
-pub record AreCountedBy (es : List Entry) (old new : State) : Type 0 where
+pub record AreCountedBy (es : List Entry) (old new : SessionState) : Type 0 where
   pub acts : latest new.host.acts ≡ latest (old.host.acts ++ acts (length old.host.looked.list) (all_steps es))
   pub calls : (k : ℕ) × (k ≤ total (λ e. no_memory e.used) es)
       × (new.store.calls ≡ more (total (λ e. (tally e.steps).calls) es + k) old.store.calls)

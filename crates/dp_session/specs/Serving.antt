@@ -99,22 +99,22 @@ Served app q now (Ok a) drawn old new =
 Served app q now (Err _) drawn old new = Serves q now used.NoMemory drawn old new
 
 -- what a session's requests change
-pub record State : Type 0 where
+pub record SessionState : Type 0 where
   pub host : HostState
   pub store : Store
   pub draws : DrawState
   -- the moments to come, where the clock tells them
   pub moments : Option (List ℕ)
 
-abbrev pub state : HostState → Store → DrawState → Option (List ℕ) → State
+abbrev pub state : HostState → Store → DrawState → Option (List ℕ) → SessionState
 state host store draws moments =
     record { host = host; store = store; draws = draws; moments = moments }
 
 -- what stands before a request, and after its steps
-abbrev pub before : State → Books
+abbrev pub before : SessionState → Books
 before s = books [] s.host s.store s.draws
 
-abbrev pub after : List Step → State → Books
+abbrev pub after : List Step → SessionState → Books
 after steps s = books steps s.host s.store s.draws
 
 -- the number that is kept of a request: 0 where its body wasn't kept, and then nothing was done for it
@@ -123,7 +123,7 @@ IsNeed need asked u steps drawn =
     (need ≡ asked) ⊎ ((need ≡ 0) × (u ≡ used.NoMemory) × (steps ≡ []) × (drawn ≡ []))
 
 -- an entry tells what the request of this body did: at the clock's next moment, or the last there is
-pub record IsEntry (body : List ℕ) (e : Entry) (old new : State) : Type 0 where
+pub record IsEntry (body : List ℕ) (e : Entry) (old new : SessionState) : Type 0 where
   pub moment : ℕ
   pub shown : ShowsMoment old.moments new.moments moment
   pub now : e.now ≡ min moment LAST

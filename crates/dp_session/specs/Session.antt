@@ -15,18 +15,18 @@ use Rattle.dp_session.specs.declared.trace.Used.TheVariants as used
 use Rattle.std.specs.Io.KnownBytes.{Consumes}
 use Rattle.dp_session.specs.Frames.{frames, AreBodies, RefusesFrame, TakesPart}
 use Rattle.dp_session.specs.Replies.{reply_to}
-use Rattle.dp_session.specs.Serving.{State, IsEntry}
+use Rattle.dp_session.specs.Serving.{SessionState, IsEntry}
 
 -- the most requests of a session
 abbrev pub MOST : ℕ
 MOST = 16384
 
 -- each request was served, in order, from the state that the one before left
-abbrev pub Chain : List (List ℕ) → List Entry → State → State → Type 0
+abbrev pub Chain : List (List ℕ) → List Entry → SessionState → SessionState → Type 0
 Chain [] [] old new = new ≡ old
 Chain [] (e ∷ es) old new = ⊥
 Chain (b ∷ bodies) [] old new = ⊥
-Chain (b ∷ bodies) (e ∷ es) old new = (mid : State) × IsEntry b e old mid × Chain bodies es mid new
+Chain (b ∷ bodies) (e ∷ es) old new = (mid : SessionState) × IsEntry b e old mid × Chain bodies es mid new
 
 -- how many elements the list of an entry has; 0 where it has none
 abbrev pub front_of : Used → ℕ
@@ -67,7 +67,7 @@ pub record Outside : Type 0 where
   -- the bytes left and the bytes written, where they are told
   pub input : Option (List ℕ)
   pub output : Option (List ℕ)
-  pub state : State
+  pub state : SessionState
   pub entries : List Entry
   pub list : List Element
 
@@ -111,7 +111,7 @@ EndsAt app status.NoMemory bad old new = NoMore old new × (new.input ≡ old.in
 EndsAt app status.Spent bad old new = ⊥
 
 -- what a session is asked, and what it has come to
-abbrev pub outside : Option (List ℕ) → Option (List ℕ) → State → List Entry → List Element → Outside
+abbrev pub outside : Option (List ℕ) → Option (List ℕ) → SessionState → List Entry → List Element → Outside
 outside input output state entries list =
     record { input = input; output = output; state = state; entries = entries; list = list }
 

@@ -19,7 +19,7 @@ use Rattle.dp_session.specs.declared.status.Status.TheVariants as status
 use Rattle.dp_session.specs.declared.trace.Used.TheVariants as used
 use Rattle.dp_session.specs.Replies.{reply_to}
 use Rattle.dp_session.specs.Needs.{need_of}
-use Rattle.dp_session.specs.Serving.{State, Serves, before, after, IsNeed, IsListOf}
+use Rattle.dp_session.specs.Serving.{SessionState, Serves, before, after, IsNeed, IsListOf}
 
 -- the turn of a request that was answered, or found no memory
 abbrev pub turn_of : Result Response Memory → ℕ → ℕ → ℕ → List Step → List ℕ → Turn
@@ -50,7 +50,7 @@ halt_of (unread.Bad why) = record { status = status.BadInput; bad = Some why }
 halt_of unread.Failed = record { status = status.ReadFault; bad = None }
 
 -- the turn is that of the request of the body, at the moment
-pub record IsTurn (app body : List ℕ) (now : ℕ) (t : Turn) (old new : State) : Type 0 where
+pub record IsTurn (app body : List ℕ) (now : ℕ) (t : Turn) (old new : SessionState) : Type 0 where
   pub moment : t.entry.now ≡ now
   pub need : IsNeed t.entry.need (need_of (request_at body)) t.entry.used t.entry.steps t.entry.drawn
   pub seen : t.entry.seen ≡ length old.host.own

@@ -1,5 +1,6 @@
 //! A session: framed requests, each served in turn by a lawful path and answered before the next is
-//! read, with a trace of what each used.
+//! read, with a trace of what each used (`session`); and single calls that protect and unprotect at a
+//! node (`calls`).
 #![tactic(auto)]
 
 mod answer;

@@ -63,16 +63,17 @@ fn bytes_of(alloc: Global, text: &str) -> Result<Vec<u8>, Fail> {
     Ok(bytes)
 }
 
+fn put_revocation(alloc: Global, bytes: &mut Vec<u8>) -> Result<(), Fail> {
+    let reason = Reason::new(alloc, "")?;
+    let element = Element::RevokeBefore { date: 7, reason };
+    Ok(encode(alloc, &element, bytes)?)
+}
+
 // So many mass revocations.
 fn revocations(alloc: Global, count: usize) -> Result<ElementList, Fail> {
     let mut bytes = Vec::new(alloc);
     for _ in 0..count {
-        let reason = Reason::new(alloc, "")?;
-        encode(
-            alloc,
-            &Element::RevokeBefore { date: 7, reason },
-            &mut bytes,
-        )?;
+        put_revocation(alloc, &mut bytes)?;
     }
     Ok(read_list(alloc, bytes.as_slice())?)
 }
@@ -254,7 +255,9 @@ fn full(rt: HostRuntime) -> Result<(), Fail> {
     let (end, written) = session(alloc, bytes_of(alloc, ROLL)?, &outside)?;
     let wanted = [0, 0, 0, 9, 8, 0, 0, 0, 0, 0, 0, 64, 0];
     assert_eq!(rt; written.as_slice(), wanted.as_slice());
-    let entry = end.trace.entries.as_slice().first().ok_or("an entry")?;
+    let entries = end.trace.entries.as_slice();
+    assert_eq!(rt; entries.len(), 1);
+    let entry = entries.first().ok_or("an entry")?;
     assert!(rt; is_full(entry));
     let steps = [Step::Drawn { bytes: 80 }, Step::AppendFull];
     assert_eq!(rt; entry.steps.as_slice(), steps.as_slice());

@@ -103,7 +103,7 @@ abbrev pub given_back : Course → Course
 given_back d = if holds false d.steps then closed d (Give ∷ []) else d
 
 -- a front of a course, and Give where the turn is held
-pub record IsCut (d whole : Course) : Type 0 where
+pub record IsCutOff (d whole : Course) : Type 0 where
   pub front : Course
   pub is : IsFront front whole
   pub given : d ≡ given_back front

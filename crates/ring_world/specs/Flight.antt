@@ -14,7 +14,7 @@ use Rattle.repo_keeper.specs.Made.{key_of_draw}
 use Rattle.ring_world.specs.declared.step.Step.{Step}
 use Rattle.ring_world.specs.declared.step.Step.TheVariants.{Want, Look, Read, ReadFailed, WentBack, Drawn, DrawFailed, Appended, AppendFull, AppendFailed, Publish, Extend}
 use Rattle.ring_world.specs.Course.{Course, idle, IsFront}
-use Rattle.ring_world.specs.Lists.{IsReadFrom, IsReadUpTo, Reaches, IsShort, IsFilled, IsGrown}
+use Rattle.ring_world.specs.Lists.{IsReadFrom, IsReadUpTo, Reaches, FindsFewer, IsFilled, IsGrown}
 
 -- why a call isn't answered by a ring or a place
 pub data Refusal : Type 0 where
@@ -153,19 +153,19 @@ IsFetch t base (Filled es k) =
     IsRead t base es × (makes_key t es ≡ true) × (length k ≡ 80) × IsFilled t.told
 IsFetch t base (Shrunk es k got) =
     (t.opening ≡ true) × IsRead t base es × (makes_key t es ≡ true) × (length k ≡ 80)
-    × IsShort t.told (length es) got
+    × FindsFewer t.told (length es) got
 
 -- where a flight may be refused
 abbrev pub IsBreak : Terms → List Element → Break → Type 0
 IsBreak t base NoRead = Unit {0}
-IsBreak t base (ShortRead had got) = (had ≡ length base) × IsShort t.told had got
+IsBreak t base (ShortRead had got) = (had ≡ length base) × FindsFewer t.told had got
 IsBreak t base (NoDraw es) = IsRead t base es
 IsBreak t base (NoKeyDraw es w) = IsRead t base es × (makes_key t es ≡ true) × (length w ≡ 8)
 IsBreak t base (NoAppend es w k) =
     IsRead t base es × (makes_key t es ≡ true) × (length w ≡ 8) × (length k ≡ 80)
 IsBreak t base (ShortAppend es w k got) =
     (t.opening ≡ false) × IsRead t base es × (makes_key t es ≡ true) × (length w ≡ 8) × (length k ≡ 80)
-    × IsShort t.told (length es) got
+    × FindsFewer t.told (length es) got
 
 abbrev pub IsFlight : Terms → List Element → Flight → Type 0
 IsFlight t base (Flown w f) = (length w ≡ 8) × IsFetch t base f

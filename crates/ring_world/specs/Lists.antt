@@ -26,8 +26,8 @@ abbrev pub Reaches : List Element → Option (List Element) → Type 0
 Reaches es told = IfSome told (λ list. length list ≤ length es)
 
 -- fewer elements stand than were known: so many
-abbrev pub IsShort : Option (List Element) → ℕ → ℕ → Type 0
-IsShort told had got = (got < had) × IfSome told (λ list. length list ≡ got)
+abbrev pub FindsFewer : Option (List Element) → ℕ → ℕ → Type 0
+FindsFewer told had got = (got < had) × IfSome told (λ list. length list ≡ got)
 
 -- as many elements stand as may
 abbrev pub IsFilled : Option (List Element) → Type 0

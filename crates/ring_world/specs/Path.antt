@@ -7,8 +7,8 @@ use Rattle.key_elements.specs.Lists.{Agree, IsFirstDifference}
 use Rattle.key_ring.specs.Ring.{RingOf, ring_of, due}
 use Rattle.ring_world.specs.declared.step.Step.{Step}
 use Rattle.ring_world.specs.declared.step.Step.TheVariants.{Want, Take, Busy, Give, PrivateRead, ReadFailed, WentBack}
-use Rattle.ring_world.specs.Course.{Course, stepped, looking, led, closed, IsFront, IsCut}
-use Rattle.ring_world.specs.Lists.{longer, IsReadFrom, IsShort}
+use Rattle.ring_world.specs.Course.{Course, stepped, looking, led, closed, IsFront, IsCutOff}
+use Rattle.ring_world.specs.Lists.{longer, IsReadFrom, FindsFewer}
 use Rattle.ring_world.specs.Flight.{Refusal, StoreFault, Shorter, Forked, Memory, Sight, sight_steps, Terms, Flight, IsFlight, gather_end, flight_course}
 
 -- what a call is asked, by which pass
@@ -86,7 +86,7 @@ IsPath c (Turned s t) = Sees c s × (is_enough c s ≡ false) × IsTurn c t
 IsPath c (AloneFailed s h) = Sees c s × (c.single ≡ None) × (length s.ring.list < target c)
 IsPath c (AloneShort s h had got) =
     Sees c s × (c.single ≡ None) × (length s.ring.list < target c) × (had ≡ length (base c s))
-    × IsShort c.terms.told had got
+    × FindsFewer c.terms.told had got
 IsPath c (Apart s at) = Sees c s × IsFirstDifference c.own s.ring.list at
 
 -- each ring that was looked at agrees with the list seen as far as both reach, but for the one that
@@ -158,4 +158,4 @@ pub data TurnGives (c : Call) (result : Result RingOf Refusal) (d : Course) : Ty
 -- of one, and Give where the turn is held
 pub data PathGives (c : Call) (result : Result RingOf Refusal) (d : Course) : Type 0 where
   went : (p : Path) → IsPath c p → InLine c p → path_end c p ≡ result → d ≡ path_course c p → PathGives c result d
-  stopped : (p : Path) → IsPath c p → InLine c p → result ≡ Err Memory → IsCut d (path_course c p) → PathGives c result d
+  stopped : (p : Path) → IsPath c p → InLine c p → result ≡ Err Memory → IsCutOff d (path_course c p) → PathGives c result d

@@ -6,7 +6,7 @@ use Rattle.key_elements.specs.declared.list.TheConstants.{MAX_ELEMENTS}
 use Rattle.ring_world.specs.declared.step.Step.{Step}
 use Rattle.ring_world.specs.declared.step.Step.TheVariants.{WentBack, Drawn, DrawFailed, Appended, AppendFull, AppendFailed, RaiseWant, Answer}
 use Rattle.ring_world.specs.Course.{Course, idle, IsFront}
-use Rattle.ring_world.specs.Lists.{IsReadFrom, IsShort, IsFilled, IsGrown}
+use Rattle.ring_world.specs.Lists.{IsReadFrom, FindsFewer, IsFilled, IsGrown}
 use Rattle.ring_world.specs.Flight.{Refusal, StoreFault, DrawFault, Shorter, Full, Memory}
 
 -- what a call is to append, for a pass that has seen a list
@@ -59,7 +59,7 @@ IsPlacing a (Placed b fs) =
 IsPlacing a Undrawn = a.draws ≡ true
 IsPlacing a (Unplaced b) = IsDraw a.draws b
 IsPlacing a (Overfull b) = IsDraw a.draws b × IsFilled a.told
-IsPlacing a (Receded b got) = IsDraw a.draws b × IsShort a.told (length a.own) got
+IsPlacing a (Receded b got) = IsDraw a.draws b × FindsFewer a.told (length a.own) got
 
 -- after an append the want number is raised to the length of the list, and the call is answered
 abbrev pub placed_steps : Result (List Element) Refusal → List Step

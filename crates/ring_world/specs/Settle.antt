@@ -10,7 +10,7 @@ use Rattle.key_ring.specs.Ring.{RingOf}
 use Rattle.ring_world.specs.declared.step.Step.{Step}
 use Rattle.ring_world.specs.declared.step.Step.TheVariants.{Take, Busy, Give, Read, PrivateRead}
 use Rattle.ring_world.specs.declared.step.TheConstants.{SECOND_TRY_SPAN}
-use Rattle.ring_world.specs.Course.{Course, idle, stepped, led, closed, IsFront, IsCut}
+use Rattle.ring_world.specs.Course.{Course, idle, stepped, led, closed, IsFront, IsCutOff}
 use Rattle.ring_world.specs.Flight.{Refusal, Memory, IsFlight}
 use Rattle.ring_world.specs.Path.{Call, Turn, Blind, Rests, Parts, Flies, Sees, Wants, base, InLineTurn, turn_course, turn_end}
 
@@ -83,4 +83,4 @@ pub data SecondGives (c : Call) (result : Result RingOf Refusal) (d : Course) : 
 -- for want of memory, a front of one, and Give where the turn is held
 pub data SettleGives (c : Call) (s : List Step) (r : RingOf) (result : Result RingOf Refusal) (d : Course) : Type 0 where
   settled : (x : Settle) → IsSettled c s r x → InLineSettle c x → settle_end c r x ≡ result → d ≡ settle_course c x → SettleGives c s r result d
-  settle_stopped : (t : Turn) → IsSettled c s r (Again t) → InLineTurn c t → result ≡ Err Memory → IsCut d (settle_course c (Again t)) → SettleGives c s r result d
+  settle_stopped : (t : Turn) → IsSettled c s r (Again t) → InLineTurn c t → result ≡ Err Memory → IsCutOff d (settle_course c (Again t)) → SettleGives c s r result d

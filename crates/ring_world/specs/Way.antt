@@ -5,7 +5,7 @@ use Rattle.key_elements.specs.declared.element.Element.{Element}
 use Rattle.key_ring.specs.Ring.{RingOf}
 use Rattle.ring_world.specs.declared.step.Step.{Step}
 use Rattle.ring_world.specs.declared.step.Step.TheVariants.{Answer}
-use Rattle.ring_world.specs.Course.{Course, closed, joined, IsCut}
+use Rattle.ring_world.specs.Course.{Course, closed, joined, IsCutOff}
 use Rattle.ring_world.specs.Flight.{Refusal, Behind, Memory}
 use Rattle.ring_world.specs.Path.{Call, Path, IsPath, InLine, path_course, path_end}
 use Rattle.ring_world.specs.Settle.{Settle, IsSettled, InLineSettle, settle_course, settle_end}
@@ -51,4 +51,4 @@ own_after own (Err why) = own
 -- those to which it comes; or, for want of memory, it was cut off
 pub data CallPath (c : Call) (result : Result RingOf Refusal) (own : List Element) (d : Course) : Type 0 where
   complete : (x : Way) → IsWay c x → InLineWay c x → answered c.need (way_end c x) ≡ result → own ≡ own_after c.own (way_end c x) → d ≡ closed (way_course c x) (answer_steps (way_end c x)) → CallPath c result own d
-  cut_off : (x : Way) → IsWay c x → InLineWay c x → result ≡ Err Memory → own ≡ c.own → IsCut d (way_course c x) → CallPath c result own d
+  cut_off : (x : Way) → IsWay c x → InLineWay c x → result ≡ Err Memory → own ≡ c.own → IsCutOff d (way_course c x) → CallPath c result own d

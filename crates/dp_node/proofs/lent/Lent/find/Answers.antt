@@ -7,7 +7,7 @@ use Rattle.ring_world.specs.Lists.{longer}
 use Rattle.ring_world.specs.Path.{is_enough_for, sight_course, after_sight, TurnGives, PathGives}
 use Rattle.dp_node.specs.HostState.{HostState, taken}
 use Rattle.dp_node.specs.Sight.{sight_of}
-use Rattle.dp_node.specs.Gather.{refusal, seen}
+use Rattle.dp_node.specs.Gather.{refusal, in_paths}
 use Rattle.dp_node.specs.Calls.{call}
 use Rattle.dp_node.proofs.Books.{after, before, exactly, recorded-joined, IsFrontOf-trans, Grows-refl}
 use Rattle.dp_node.proofs.Courses.{longer_extends_own, enough-target, IsFrontOf-in_line, path_at_once, path_turned, path_stale, path_alone, path_alone_lost, path_alone_refused, private_read}
@@ -115,7 +115,7 @@ returns-clause-did g c = λ missing.
     let e = subst (λ n. is_enough_for c.args.at.now n s ≡ false) c.requires.target (sym c.is_enough.ensures ∙ c.if-is_enough.false) in
     let x = call c.args.at missing h (g.R.Repo.store c.args.self.now.repo.now).list told in
     let r = recorded-joined (sight_course s []) (stepped (Take ∷ [])) _ _ _ (did_sight _ _ _ _ (g.R.Repo.store c.args.self.now.repo.now) (g.D.Draw.draws c.args.self.now.draw.now) s c.in_ok-sight.ensures.steps c.in_ok-sight.ensures.shows c.in_ok-sight.ensures.host) (did_take _ _ _ _ _ _ c.in-Ok.ensures.0 c.push-in-Ok.ensures c.in-Ok.ensures.1 c.in-Ok.ensures.2) in
-    let result = seen c.under_turn-found.result in
+    let result = in_paths c.under_turn-found.result in
     let host = c.in-Ok.ensures.2 ∙ ap (taken c.in-Ok.ensures.0) c.in_ok-sight.ensures.host in
     after _ _ r (before {R = λ y. PathGives x result (after_sight s (Take ∷ []) y)} (Give ∷ []) (c.under_turn-found.ensures.did missing (g.R.Repo.store c.args.self.now.repo.now).list (Grows-refl _)) (did_give _ _ _ _ _ _ c.push-in-Ok-2.ensures c.give.ensures)
     (λ y p. path_turned x s c.in_ok-sight.ensures.shows.2 c.in_ok-sight.ensures.in_line e result y (subst (λ (z : HostState). TurnGives (call c.args.at missing z (g.R.Repo.store c.args.self.now.repo.now).list told) result y) host p))) (λ y p. p)

@@ -4,7 +4,7 @@ use Rattle.ring_world.specs.Lists.{longer}
 use Rattle.ring_world.specs.Flight.{sight_steps, FlightGives}
 use Rattle.dp_node.specs.HostState.{HostState}
 use Rattle.dp_node.specs.Sight.{sight_of}
-use Rattle.dp_node.specs.Gather.{seen}
+use Rattle.dp_node.specs.Gather.{in_paths}
 use Rattle.dp_node.specs.Calls.{call, terms}
 use Rattle.dp_node.proofs.Books.{after}
 use Rattle.dp_node.proofs.Settles.{second_flies}
@@ -22,6 +22,6 @@ returns-clause-did g c = λ missing before since.
     let h = g.H.HostView.state c.args.self.now.host.now in
     let told = (g.R.Repo.store c.flight.new.self.repo.now).list in
     let x = call c.args.at missing h before told in
-    let r = seen c.flight.result in
+    let r = in_paths c.flight.result in
     after (sight_steps s) (s.ring ∷ []) (did_sight _ _ _ _ _ _ s c.in_ok-sight.ensures.steps c.in_ok-sight.ensures.shows c.in_ok-sight.ensures.host) (c.flight.ensures.did before since)
     (λ d p. second_flies x s c.in_ok-sight.ensures.shows.2 r c.in_ok-sight.ensures.in_line d (subst (λ (z : HostState). FlightGives (terms c.args.at.now z.facts.options false before told) (longer z.own s.ring.list) s r d) c.in_ok-sight.ensures.host p))

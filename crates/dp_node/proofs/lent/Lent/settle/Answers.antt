@@ -3,7 +3,7 @@ use Rattle.ring_world.specs.declared.step.Step.TheVariants.{Take, Busy, Give}
 use Rattle.ring_world.specs.Course.{idle, led}
 use Rattle.ring_world.specs.Settle.{Keeps, Stays, SecondGives, SettleGives, settled, misses}
 use Rattle.dp_node.specs.HostState.{HostState}
-use Rattle.dp_node.specs.Gather.{seen}
+use Rattle.dp_node.specs.Gather.{in_paths}
 use Rattle.dp_node.specs.Calls.{call}
 use Rattle.dp_node.proofs.Books.{after, before as behind, exactly, nothing}
 use Rattle.dp_node.proofs.Courses.{private_front}
@@ -38,7 +38,7 @@ returns-in-Ok-clause-did g c = λ before since.
     let x = call c.args.at c.args.missing h before told in
     let m : misses x c.args.self.now.steps.now c.args.found ≡ true =
     rw c.as_slice.ensures at (sym (c.misses.ensures h before told (sym c.facts.ensures)) ∙ c.if-not-misses.false) in
-    let result = seen c.fly_again-again.result in
+    let result = in_paths c.fly_again-again.result in
     after _ _ (did_take _ _ _ _ _ _ c.in-Ok.ensures.0 c.push-in-Ok.ensures c.in-Ok.ensures.1 c.in-Ok.ensures.2)
     (behind {R = λ y. SettleGives x c.args.self.now.steps.now c.args.found result (led (Take ∷ []) [] y)} (Give ∷ []) (c.fly_again-again.ensures.did c.args.missing before since) (did_give _ _ _ _ _ _ c.push-in-Ok-2.ensures c.give.ensures)
     (λ y p. settle_again x c.args.self.now.steps.now c.args.found m result y (subst (λ (z : HostState). SecondGives (call c.args.at c.args.missing z before told) result y) c.in-Ok.ensures.2 p))) (λ y p. p)

@@ -5,7 +5,7 @@ use Rattle.ring_world.specs.Flight.{sight_steps, FlightGives}
 use Rattle.ring_world.specs.Path.{is_enough_for}
 use Rattle.dp_node.specs.HostState.{HostState}
 use Rattle.dp_node.specs.Sight.{sight_of}
-use Rattle.dp_node.specs.Gather.{seen}
+use Rattle.dp_node.specs.Gather.{in_paths}
 use Rattle.dp_node.specs.Calls.{call, terms}
 use Rattle.dp_node.proofs.Books.{after, exactly}
 use Rattle.dp_node.proofs.Courses.{turn_flies, turn_rests, enough-target, IsFrontOf-in_line}
@@ -37,6 +37,6 @@ returns-clause-did g c = λ missing before since.
     let told = (g.R.Repo.store c.flight.new.self.repo.now).list in
     let e = subst (λ n. is_enough_for c.args.at.now n s ≡ false) c.requires.target (sym c.is_enough.ensures ∙ c.if-is_enough.false) in
     let x = call c.args.at missing h before told in
-    let r = seen c.flight.result in
+    let r = in_paths c.flight.result in
     after (sight_steps s) (s.ring ∷ []) (did_sight _ _ _ _ _ _ s c.in_ok-sight.ensures.steps c.in_ok-sight.ensures.shows c.in_ok-sight.ensures.host) (c.flight.ensures.did before since)
     (λ d p. turn_flies x s c.in_ok-sight.ensures.shows.2 r c.in_ok-sight.ensures.in_line e d (subst (λ (z : HostState). FlightGives (terms c.args.at.now z.facts.options false before told) (longer z.own s.ring.list) s r d) c.in_ok-sight.ensures.host p))

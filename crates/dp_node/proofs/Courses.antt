@@ -11,7 +11,7 @@ use Rattle.ring_world.specs.declared.step.Step.TheVariants.{Want, Take, Busy, Gi
 use Rattle.ring_world.specs.Course.{Course, stepped, closed, IsFront, IsCutOff, holds}
 use Rattle.ring_world.specs.Lists.{longer}
 use Rattle.ring_world.specs.Flight.{Refusal, StoreFault, Shorter, Forked, Memory, Sight, sight_steps, Plain, Keyed, Filled, Shrunk, NoRead, ShortRead, NoDraw, NoKeyDraw, NoAppend, ShortAppend, Flown, Broken, whole, cut, FlightGives}
-use Rattle.ring_world.specs.Path.{Call, target, is_enough_for, is_enough, base, Sees, Wants, Turn, Blind, Rests, Parts, Flies, Path, Unseen, AtOnce, Stale, Alone, Turned, AloneFailed, AloneShort, Apart, sight_course, after_sight, turn_course, path_course, TurnGives, turned, turn_stopped, PathGives, went, stopped}
+use Rattle.ring_world.specs.Path.{Call, target, is_enough_for, is_enough, base, Sees, Wants, HolderPath, LookFailed, Rests, Parts, Flies, Path, FirstLookFailed, AtOnce, Stale, Alone, Turned, AloneFailed, AloneShort, Apart, sight_course, after_sight, turn_course, path_course, TurnGives, turned, turn_stopped, PathGives, went, stopped}
 use Rattle.dp_node.specs.Gather.{ReadGives}
 use Rattle.dp_node.specs.Calls.{is_private, private_step}
 use Rattle.dp_node.proofs.Books.{IsFrontOf-refl}
@@ -19,8 +19,8 @@ use Rattle.dp_node.proofs.Flights.{gather_noted}
 use Rattle.dp_node.proofs.Fronts.{front_unnoted, front_whole, front_led, front_closed, all_leave, all_leave-front, held_behind, free_behind}
 
 -- the holder of the turn gives it back only at the end
-pub turn_leaves : (c : Call) (x : Turn) → all_leave (turn_course c x).steps ≡ true
-turn_leaves c (Blind n) = refl
+pub turn_leaves : (c : Call) (x : HolderPath) → all_leave (turn_course c x).steps ≡ true
+turn_leaves c (LookFailed n) = refl
 turn_leaves c (Rests t) = refl
 turn_leaves c (Parts t at) = refl
 turn_leaves c (Flies t (Flown w (Plain es))) = refl
@@ -36,7 +36,7 @@ turn_leaves c (Flies t (Broken (ShortAppend es w k got))) = refl
 
 -- behind a path the turn is free
 pub path_free : (c : Call) (p : Path) → holds false (path_course c p).steps ≡ false
-path_free c (Unseen n) = refl
+path_free c (FirstLookFailed n) = refl
 path_free c (AtOnce s) = refl
 path_free c (Stale s h) = refl
 path_free c (Alone s h es) = refl
@@ -45,14 +45,14 @@ path_free c (AloneFailed s h) = refl
 path_free c (AloneShort s h had got) = refl
 path_free c (Apart s at) = refl
 
-pub turn_noted : (c : Call) (x : Turn) → (turn_course c x).unnoted ≡ 0
-turn_noted c (Blind n) = refl
+pub turn_noted : (c : Call) (x : HolderPath) → (turn_course c x).unnoted ≡ 0
+turn_noted c (LookFailed n) = refl
 turn_noted c (Rests t) = refl
 turn_noted c (Parts t at) = refl
 turn_noted c (Flies t x) = gather_noted x
 
 pub path_noted : (c : Call) (p : Path) → (path_course c p).unnoted ≡ 0
-path_noted c (Unseen n) = refl
+path_noted c (FirstLookFailed n) = refl
 path_noted c (AtOnce s) = refl
 path_noted c (Stale s h) = refl
 path_noted c (Alone s h es) = refl
@@ -68,10 +68,10 @@ free_cut d w h f = record { front = d; is = f; given = sym (rw h refl) }
 module _ (c : Call) where
   -- no memory was found for the look
   pub turn_none : (n : ℕ) → Wants c n → TurnGives c (Err Memory) (stepped (Want n ∷ []))
-  turn_none n h = turned (Blind n) h tt refl refl
+  turn_none n h = turned (LookFailed n) h tt refl refl
 
   pub path_none : (n : ℕ) → Wants c n → PathGives c (Err Memory) (stepped (Want n ∷ []))
-  path_none n h = went (Unseen n) h tt refl refl
+  path_none n h = went (FirstLookFailed n) h tt refl refl
 
 module _ (c : Call) (t : Sight) (sees : Sees c t) where
   pub turn_flies : (r : Result RingOf Refusal) → Agree c.own t.ring.list → is_enough c t ≡ false → (d : Course) → FlightGives c.terms (base c t) t r d → TurnGives c r (after_sight t [] d)

@@ -9,7 +9,7 @@ use Rattle.ring_world.specs.declared.step.Step.TheVariants.{Want, Take, Give}
 use Rattle.ring_world.specs.declared.step.TheConstants.{SECOND_TRY_SPAN}
 use Rattle.ring_world.specs.Course.{Course, stepped, led, closed, holds}
 use Rattle.ring_world.specs.Flight.{Refusal, Forked, Memory, Sight, sight_steps, whole, cut, FlightGives}
-use Rattle.ring_world.specs.Path.{Call, base, Sees, Wants, Blind, Parts, Flies, sight_course, after_sight, turn_course}
+use Rattle.ring_world.specs.Path.{Call, base, Sees, Wants, LookFailed, Parts, Flies, sight_course, after_sight, turn_course}
 use Rattle.ring_world.specs.Settle.{any_reads, lacks_named, misses, Settle, Keeps, Stays, Again, settle_course, SecondGives, flew, fly_stopped, SettleGives, settled, settle_stopped}
 use Rattle.dp_node.proofs.Fronts.{front_whole, front_led, front_closed, all_leave, all_leave-front, held_behind, free_behind}
 use Rattle.dp_node.proofs.Courses.{turn_leaves, turn_noted}
@@ -28,7 +28,7 @@ settle_noted c (Again t) = turn_noted c t
 module _ (c : Call) where
   -- no memory was found for the look
   pub second_none : (n : ℕ) → Wants c n → SecondGives c (Err Memory) (stepped (Want n ∷ []))
-  second_none n h = flew (Blind n) h tt refl refl
+  second_none n h = flew (LookFailed n) h tt refl refl
 
 module _ (c : Call) (t : Sight) (sees : Sees c t) where
   pub second_flies : (r : Result RingOf Refusal) → Agree c.own t.ring.list → (d : Course) → FlightGives c.terms (base c t) t r d → SecondGives c r (after_sight t [] d)

@@ -14,7 +14,7 @@ use Rattle.ring_world.specs.declared.step.Step.{Step}
 use Rattle.ring_world.specs.declared.step.Step.TheVariants.{Give, Answer}
 use Rattle.ring_world.specs.Course.{Course, idle, closed, joined, given_back, IsFront, IsCutOff, holds, holds_after}
 use Rattle.ring_world.specs.Flight.{Refusal, Behind, Memory, Sight, Plain, Keyed, Filled, Shrunk, Flown, Broken}
-use Rattle.ring_world.specs.Path.{Call, Path, Unseen, AtOnce, Stale, Alone, Turned, AloneFailed, AloneShort, Apart, Blind, Rests, Parts, Flies, IsPath, InLine, PathGives, went, stopped, path_course, path_end}
+use Rattle.ring_world.specs.Path.{Call, Path, FirstLookFailed, AtOnce, Stale, Alone, Turned, AloneFailed, AloneShort, Apart, LookFailed, Rests, Parts, Flies, IsPath, InLine, PathGives, went, stopped, path_course, path_end}
 use Rattle.ring_world.specs.Settle.{any_reads, misses, Keeps, Again, IsSettled, settle_course, SettleGives, settled, settle_stopped}
 use Rattle.ring_world.specs.Way.{Way, Comes, Fails, IsWay, InLineWay, way_course, way_end, answered, answer_steps, own_after, CallPath, complete, cut_off}
 use Rattle.dp_node.specs.declared.call.At.{At}
@@ -33,11 +33,11 @@ told_as c told = record c { terms = record c.terms { told = told } }
 
 -- a path to a ring for which nothing was read says nothing of the repository
 pub path_told : (c : Call) (told : Option (List Element)) (r : RingOf) (d : Course) → any_reads d.steps ≡ false → PathGives (told_as c told) (Ok r) d → PathGives c (Ok r) d
-path_told c told r d h (went (Unseen n) is l e q) = cc
+path_told c told r d h (went (FirstLookFailed n) is l e q) = cc
 path_told c told r d h (went (AtOnce s) is l e q) = went (AtOnce s) is l e q
 path_told c told r d h (went (Stale s n) is l e q) = went (Stale s n) is l e q
 path_told c told r d h (went (Alone s n es) is l e q) = cc
-path_told c told r d h (went (Turned s (Blind n)) is l e q) = cc
+path_told c told r d h (went (Turned s (LookFailed n)) is l e q) = cc
 path_told c told r d h (went (Turned s (Rests t)) is l e q) = went (Turned s (Rests t)) is l e q
 path_told c told r d h (went (Turned s (Parts t at)) is l e q) = cc
 path_told c told r d h (went (Turned s (Flies t (Flown w (Plain es)))) is l e q) = cc
@@ -56,11 +56,11 @@ pub record Quiet (d : Course) : Type 0 where
   pub wants : (n : ℕ) → want_after n d.steps ≡ n
 
 pub path_quiet : (c : Call) (p : Path) (r : RingOf) → path_end c p ≡ Ok r → any_reads (path_course c p).steps ≡ false → Quiet (path_course c p)
-path_quiet c (Unseen n) r e h = cc
+path_quiet c (FirstLookFailed n) r e h = cc
 path_quiet c (AtOnce s) r e h = record { published = refl; wants = λ n. refl }
 path_quiet c (Stale s m) r e h = record { published = refl; wants = λ n. refl }
 path_quiet c (Alone s m es) r e h = cc
-path_quiet c (Turned s (Blind n)) r e h = cc
+path_quiet c (Turned s (LookFailed n)) r e h = cc
 path_quiet c (Turned s (Rests t)) r e h = record { published = refl; wants = λ n. refl }
 path_quiet c (Turned s (Parts t at)) r e h = cc
 path_quiet c (Turned s (Flies t (Flown w (Plain es)))) r e h = cc
@@ -212,7 +212,7 @@ module _ (c : Call) where
   comes_cut p r d false m is l e g = (Comes p r Keeps, (is, e, m), (l, tt), subst (IsCutOff d) (sym (joined-idle (path_course c p))) g)
   comes_cut p r d true m is l e g =
       let n = any_want c.single in
-      let t = Blind n.0 in
+      let t = LookFailed n.0 in
       let quiet = path_quiet c p r e (misses-unread c (path_course c p).steps r m) in
       (Comes p r (Again t), (is, e, (m, n.1)), (l, tt), cut_before (path_course c p) quiet.published (path_noted c p) d (settle_course c (Again t)) g)
 

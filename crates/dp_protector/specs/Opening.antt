@@ -114,6 +114,6 @@ WantsMemory (Err Tampered) = Unit {0}
 WantsMemory (Err Memory) = ⊥
 
 -- the answer is what is due, but for want of memory
-abbrev pub Answers : {X Y : Type 0} → (X → Y) → Result X UnprotectRefused → Result Y UnprotectRefused → Type 0
-Answers view (Ok x) due = due ≡ Ok (view x)
-Answers view (Err why) due = (due ≡ Err why) ⊎ ((why ≡ Memory) × WantsMemory due)
+abbrev pub IsDueAnswer : {X Y : Type 0} → (X → Y) → Result X UnprotectRefused → Result Y UnprotectRefused → Type 0
+IsDueAnswer view (Ok x) due = due ≡ Ok (view x)
+IsDueAnswer view (Err why) due = (due ≡ Err why) ⊎ ((why ≡ Memory) × WantsMemory due)

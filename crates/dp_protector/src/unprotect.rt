@@ -2,7 +2,7 @@
 
 ghost use Rattle.std.specs.Prelude.{◌≡◌, ◌⊎◌, ◌<◌, ◌^◌, ◌&&◌, not, length, None, Some, MatchResult};
 ghost use Rattle.key_ring.specs.State.{seen};
-ghost use Rattle.dp_protector.specs.Opening.{Answers, open_body, opened, opened_under, opening};
+ghost use Rattle.dp_protector.specs.Opening.{IsDueAnswer, open_body, opened, opened_under, opening};
 ghost use Rattle.dp_protector.specs.declared.refused.UnprotectRefused.TheVariants as refused;
 
 use crate::opened::Opened;
@@ -56,7 +56,7 @@ fn open_under(
     allow_revoked: bool,
 ) -> Result<Opened, UnprotectRefused>
     requires { length body.now < 2 ^ 32 }
-    ensures { Answers opening result
+    ensures { IsDueAnswer opening result
         (opened_under (Some (seen state.now)) allow_revoked id chain.now body.now) }
 {
     if is_barred(state.revoked, allow_revoked) {
@@ -84,7 +84,7 @@ pub fn unprotect_with(
     allow_revoked: bool,
 ) -> Result<Opened, UnprotectRefused>
     requires { length payload.now < 2 ^ 32 }
-    ensures { Answers opening result (opened ring.now chain.now payload.now allow_revoked) }
+    ensures { IsDueAnswer opening result (opened ring.now chain.now payload.now allow_revoked) }
 {
     let view = PayloadView::split(payload)?;
     let id = view.key_id();

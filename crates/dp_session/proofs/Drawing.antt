@@ -19,7 +19,7 @@ use Rattle.ring_world.specs.declared.step.Step.{Step}
 use Rattle.ring_world.specs.declared.step.Step.TheVariants.{Give, Appended, AppendFull, AppendFailed, WentBack}
 use Rattle.ring_world.specs.Course.{Course, closed, drawn_count, holds, IsFront}
 use Rattle.ring_world.specs.Flight.{Refusal, Flown, Broken, Plain, Keyed, Filled, Shrunk, NoRead, ShortRead, NoDraw, NoKeyDraw, NoAppend, ShortAppend}
-use Rattle.ring_world.specs.Path.{Call, Path, Unseen, AtOnce, Stale, Alone, Turned, AloneFailed, AloneShort, Apart, Turn, Blind, Rests, Parts, Flies, path_course, turn_course}
+use Rattle.ring_world.specs.Path.{Call, Path, FirstLookFailed, AtOnce, Stale, Alone, Turned, AloneFailed, AloneShort, Apart, HolderPath, LookFailed, Rests, Parts, Flies, path_course, turn_course}
 use Rattle.ring_world.specs.Settle.{Settle, Keeps, Stays, Again, IsSettled, any_reads, lacks_named, settle_course}
 use Rattle.ring_world.specs.declared.step.TheConstants.{SECOND_TRY_SPAN}
 use Rattle.ring_world.specs.Way as way
@@ -36,14 +36,14 @@ use Rattle.dp_session.specs.declared.response.Response.{Response}
 use Rattle.dp_session.specs.declared.trace.Used.{Used}
 use Rattle.dp_session.specs.declared.trace.Used.TheVariants as used
 use Rattle.dp_session.specs.Needs.{sealed_len}
-use Rattle.dp_session.specs.Serving.{Serves, unread, unstarted, misdated, by_ring, by_place, Follows, refused, answered, undrawn, stopped, lost, unheard, Served}
+use Rattle.dp_session.specs.Serving.{Serves, unread, unstarted, misdated, by_ring, by_place, AnswersByRing, refused, answered, undrawn, stopped, lost, unheard, Served}
 
 path_drawn : (c : Call) (p : Path) → drawn_count (path_course c p).steps ≤ 88
-path_drawn c (Unseen n) = omega arith
+path_drawn c (FirstLookFailed n) = omega arith
 path_drawn c (AtOnce s) = omega arith
 path_drawn c (Stale s h) = omega arith
 path_drawn c (Alone s h es) = omega arith
-path_drawn c (Turned s (Blind n)) = omega arith
+path_drawn c (Turned s (LookFailed n)) = omega arith
 path_drawn c (Turned s (Rests t)) = omega arith
 path_drawn c (Turned s (Parts t at)) = omega arith
 path_drawn c (Turned s (Flies t (Flown w (Plain es)))) = omega arith
@@ -60,8 +60,8 @@ path_drawn c (AloneFailed s h) = omega arith
 path_drawn c (AloneShort s h had got) = omega arith
 path_drawn c (Apart s at) = omega arith
 
-turn_drawn : (c : Call) (t : Turn) → drawn_count (turn_course c t).steps ≤ 88
-turn_drawn c (Blind n) = omega arith
+turn_drawn : (c : Call) (t : HolderPath) → drawn_count (turn_course c t).steps ≤ 88
+turn_drawn c (LookFailed n) = omega arith
 turn_drawn c (Rests t) = omega arith
 turn_drawn c (Parts t at) = omega arith
 turn_drawn c (Flies t (Flown w (Plain es))) = omega arith
@@ -77,11 +77,11 @@ turn_drawn c (Flies t (Broken (ShortAppend es w k got))) = omega arith
 
 -- a path that read nothing drew nothing
 unread_drawn : (c : Call) (p : Path) → any_reads (path_course c p).steps ≡ false → drawn_count (path_course c p).steps ≡ 0
-unread_drawn c (Unseen n) e = omega arith
+unread_drawn c (FirstLookFailed n) e = omega arith
 unread_drawn c (AtOnce s) e = omega arith
 unread_drawn c (Stale s h) e = omega arith
 unread_drawn c (Alone s h es) e = omega arith
-unread_drawn c (Turned s (Blind n)) e = omega arith
+unread_drawn c (Turned s (LookFailed n)) e = omega arith
 unread_drawn c (Turned s (Rests t)) e = omega arith
 unread_drawn c (Turned s (Parts t at)) e = omega arith
 unread_drawn c (Turned s (Flies t (Flown w (Plain es)))) e = cc
@@ -188,7 +188,7 @@ module _ (p : Request) (r : Result RingOf Refusal) (u : Used) (bytes : List ℕ)
   still b s = subst (λ (d : DrawState). Draws 0 bytes old d) (sym s) (subst (λ (xs : List ℕ). Draws 0 xs old old) (sym b) (Draws-none old))
 
   -- what was drawn for a payload
-  follows_drew : Follows p r u bytes old new → (k : ℕ) × Draws k bytes old new
+  follows_drew : AnswersByRing p r u bytes old new → (k : ℕ) × Draws k bytes old new
   follows_drew (refused why e k v b s) = (0, still b s)
   follows_drew (answered ring e v n s) = (0, s)
   follows_drew (undrawn ring e k v b s) = (1, subst (λ (xs : List ℕ). Draws 1 xs old new) (sym b) s)
@@ -196,7 +196,7 @@ module _ (p : Request) (r : Result RingOf Refusal) (u : Used) (bytes : List ℕ)
   follows_drew (lost ring e v n s) = (0, s)
   follows_drew (unheard ring e k v b s) = (1, subst (λ (xs : List ℕ). Draws 1 xs old new) (sym b) s)
 
-  follows_few : Follows p r u bytes old new → length bytes ≤ 32
+  follows_few : AnswersByRing p r u bytes old new → length bytes ≤ 32
   follows_few (refused why e k v b s) = omega (arith, ap length b)
   follows_few (answered ring e v n s) = omega (arith, n, sealed_len-few p ring)
   follows_few (undrawn ring e k v b s) = omega (arith, ap length b)
@@ -255,7 +255,7 @@ lent_draws k bytes old new (l ∷ ls) (m ∷ ms) e d =
 draws_lent : (k : ℕ) (bytes : List ℕ) (old new : DrawState) → Draws k bytes old new → Draws k bytes (lent old) (lent new)
 draws_lent k bytes old new d = lent_draws k bytes old new old.lenders new.lenders d.lenders d
 
-follows_lent : (p : Request) (r : Result RingOf Refusal) (u : Used) (bytes : List ℕ) (old new : DrawState) → Follows p r u bytes old new → Follows p r u bytes (lent old) (lent new)
+follows_lent : (p : Request) (r : Result RingOf Refusal) (u : Used) (bytes : List ℕ) (old new : DrawState) → AnswersByRing p r u bytes old new → AnswersByRing p r u bytes (lent old) (lent new)
 follows_lent p r u bytes old new (refused why e k v b s) = refused why e k v b (ap lent s)
 follows_lent p r u bytes old new (answered ring e v n s) = answered ring e v n (draws_lent 0 bytes old new s)
 follows_lent p r u bytes old new (undrawn ring e k v b s) = undrawn ring e k v b (draws_lent 1 [] old new s)

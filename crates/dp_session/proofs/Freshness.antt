@@ -15,7 +15,7 @@ use Rattle.ring_world.specs.declared.step.Step.TheVariants.{Take, Give, AppendFu
 use Rattle.ring_world.specs.Course.{Course}
 use Rattle.ring_world.specs.Flight as flight
 use Rattle.ring_world.specs.Flight.{Refusal, Flown, Broken, Plain, Keyed, Filled, Shrunk, NoRead, ShortRead, NoDraw, NoKeyDraw, NoAppend, ShortAppend}
-use Rattle.ring_world.specs.Path.{Call, Path, Unseen, AtOnce, Stale, Alone, Turned, AloneFailed, AloneShort, Apart, Turn, Blind, Rests, Parts, Flies, path_course, path_end, turn_course, turn_end}
+use Rattle.ring_world.specs.Path.{Call, Path, FirstLookFailed, AtOnce, Stale, Alone, Turned, AloneFailed, AloneShort, Apart, HolderPath, LookFailed, Rests, Parts, Flies, path_course, path_end, turn_course, turn_end}
 use Rattle.ring_world.specs.Settle.{Settle, Keeps, Stays, Again, settle_course, settle_end}
 use Rattle.ring_world.specs.Way as way
 use Rattle.ring_world.specs.Way.{Way, Comes, Fails, IsWay, CallPath, way_course, way_end, answered, answer_steps}
@@ -36,7 +36,7 @@ use Rattle.dp_session.specs.declared.trace.Used.{Used}
 use Rattle.dp_session.specs.declared.trace.Used.TheVariants as used
 use Rattle.dp_session.specs.Fresh.{IsFresh, IsFreshUse, AreFresh, AreCounted, IsCounted, AreCountedBy, all_steps, draw_faults, no_memory}
 use Rattle.dp_session.specs.Needs.{need_of}
-use Rattle.dp_session.specs.Serving.{SessionState, IsEntry, Serves, unread, unstarted, misdated, by_ring, by_place, Follows, refused, answered as answered_by, undrawn, stopped, lost, unheard, IsByPlace, IsNeed, before, after, Asks}
+use Rattle.dp_session.specs.Serving.{SessionState, IsEntry, Serves, unread, unstarted, misdated, by_ring, by_place, AnswersByRing, refused, answered as answered_by, undrawn, stopped, lost, unheard, IsByPlace, IsNeed, before, after, Asks}
 use Rattle.dp_session.specs.Session.{Chain, front_of, has_list}
 use Rattle.dp_session.proofs.Paths.{placed_last}
 use Rattle.dp_session.proofs.Sessions.{HasFront, serves_front}
@@ -70,7 +70,7 @@ asks_none (UnprotectText need allow chain text) now own told a h = absurd h
 asks_none (ProtectTimed need chain expiry plain) now own told a h = absurd h
 asks_none (UnprotectTimed need allow chain payload) now own told a h = absurd h
 
-follows_need : (c : Call) (p : Request) (r : Result RingOf Refusal) (own : List Element) (d : Course) (u : Used) (bytes : List ℕ) (old new : DrawState) → CallPath c r own d → Follows p r u bytes old new → has_list u ≡ true → c.need ≤ front_of u
+follows_need : (c : Call) (p : Request) (r : Result RingOf Refusal) (own : List Element) (d : Course) (u : Used) (bytes : List ℕ) (old new : DrawState) → CallPath c r own d → AnswersByRing p r u bytes old new → has_list u ≡ true → c.need ≤ front_of u
 follows_need c p r own d u bytes old new x (refused why e k v b s) h = absurd (unlisted_none u (used.Refused why) v refl h)
 follows_need c p r own d u bytes old new x (answered_by ring e v n s) h =
     omega (arith, ap front_of v, call_need c ring own d (subst (λ (y : Result RingOf Refusal). CallPath c y own d) e x))
@@ -116,7 +116,7 @@ asks_own (UnprotectText need allow chain text) now own told a h = absurd h
 asks_own (ProtectTimed need chain expiry plain) now own told a h = absurd h
 asks_own (UnprotectTimed need allow chain payload) now own told a h = absurd h
 
-unplaced : (p : Request) (r : Result RingOf Refusal) (u : Used) (bytes : List ℕ) (old new : DrawState) (place : ℕ) → Follows p r u bytes old new → u ≡ used.Placed place → ⊥
+unplaced : (p : Request) (r : Result RingOf Refusal) (u : Used) (bytes : List ℕ) (old new : DrawState) (place : ℕ) → AnswersByRing p r u bytes old new → u ≡ used.Placed place → ⊥
 unplaced p r u bytes old new place (refused why e k v b s) h = cc
 unplaced p r u bytes old new place (answered_by ring e v n s) h = cc
 unplaced p r u bytes old new place (undrawn ring e k v b s) h = cc
@@ -205,11 +205,11 @@ same_refusal : (a b : Refusal) (steps : List Step) → no_ring a ≡ no_ring b �
 same_refusal a b steps e h = let f : a ≡ b = cc in subst (λ (w : Refusal). CountedBy w steps) f h
 
 path_counted : (c : Call) (p : Path) (why : Refusal) → path_end c p ≡ Err why → CountedBy why (path_course c p).steps
-path_counted c (Unseen n) why e = same_refusal flight.Memory why _ e tt
+path_counted c (FirstLookFailed n) why e = same_refusal flight.Memory why _ e tt
 path_counted c (AtOnce s) why e = cc
 path_counted c (Stale s h) why e = cc
 path_counted c (Alone s h es) why e = cc
-path_counted c (Turned s (Blind n)) why e = same_refusal flight.Memory why _ e tt
+path_counted c (Turned s (LookFailed n)) why e = same_refusal flight.Memory why _ e tt
 path_counted c (Turned s (Rests t)) why e = cc
 path_counted c (Turned s (Parts t at)) why e = same_refusal (flight.Forked at c.own t.ring.list) why _ e tt
 path_counted c (Turned s (Flies t (Flown w f))) why e = cc
@@ -255,8 +255,8 @@ counted-before (flight.Full count) s t h = omega (arith, h, tally_fulls-append s
 counted-before flight.BadDates s t h = tt
 counted-before flight.Memory s t h = tt
 
-turn_counted : (c : Call) (t : Turn) (why : Refusal) → turn_end c t ≡ Err why → CountedBy why (turn_course c t).steps
-turn_counted c (Blind n) why e = same_refusal flight.Memory why _ e tt
+turn_counted : (c : Call) (t : HolderPath) (why : Refusal) → turn_end c t ≡ Err why → CountedBy why (turn_course c t).steps
+turn_counted c (LookFailed n) why e = same_refusal flight.Memory why _ e tt
 turn_counted c (Rests t) why e = cc
 turn_counted c (Parts t at) why e = same_refusal (flight.Forked at c.own t.ring.list) why _ e tt
 turn_counted c (Flies t (Flown w f)) why e = cc
@@ -280,8 +280,8 @@ call_counted c why own d (way.complete w is line e o s) known =
 call_counted c why own d (way.cut_off w is line e o k) known = let f : why ≡ flight.Memory = cc in absurd (known f)
 
 -- a call that came to a ring had no draw that failed
-turn_draws : (c : Call) (t : Turn) (r : RingOf) → turn_end c t ≡ Ok r → draws_failed (turn_course c t).steps ≡ 0
-turn_draws c (Blind n) r e = cc
+turn_draws : (c : Call) (t : HolderPath) (r : RingOf) → turn_end c t ≡ Ok r → draws_failed (turn_course c t).steps ≡ 0
+turn_draws c (LookFailed n) r e = cc
 turn_draws c (Rests t) r e = omega arith
 turn_draws c (Parts t at) r e = cc
 turn_draws c (Flies t (Flown w (Plain es))) r e = omega arith
@@ -291,7 +291,7 @@ turn_draws c (Flies t (Flown w (Shrunk es k got))) r e = omega arith
 turn_draws c (Flies t (Broken b)) r e = cc
 
 path_draws : (c : Call) (p : Path) (r : RingOf) → path_end c p ≡ Ok r → draws_failed (path_course c p).steps ≡ 0
-path_draws c (Unseen n) r e = cc
+path_draws c (FirstLookFailed n) r e = cc
 path_draws c (AtOnce s) r e = omega arith
 path_draws c (Stale s h) r e = omega arith
 path_draws c (Alone s h es) r e = omega arith
@@ -397,7 +397,7 @@ module _ (c : Call) (p : Request) (r : Result RingOf Refusal) (own : List Elemen
   one_fault x draws none s = s.faults ∙ ap (more 1) (draws.faults ∙ ap (λ (n : ℕ). more n old.faults) none)
 
   -- a call of the repository without a step is that of a request that found no memory
-  follows_noted : CallPath c r own d → Follows p r u bytes between new → d.unnoted ≤ no_memory u
+  follows_noted : CallPath c r own d → AnswersByRing p r u bytes between new → d.unnoted ≤ no_memory u
   follows_noted x (refused why e k v b s) = omega (arith, call_all_noted c r own d x (λ m. not_memory why k (same_why (refusal why) flight.Memory (sym e ∙ m))))
   follows_noted x (answered_by ring e v n s) = omega (arith, call_all_noted c r own d x (λ m. ring_given (sym e ∙ m)))
   follows_noted x (undrawn ring e k v b s) = omega (arith, call_all_noted c r own d x (λ m. ring_given (sym e ∙ m)))
@@ -405,7 +405,7 @@ module _ (c : Call) (p : Request) (r : Result RingOf Refusal) (own : List Elemen
   follows_noted x (lost ring e v n s) = omega (arith, call_noted c r own d x, ap no_memory v)
   follows_noted x (unheard ring e k v b s) = omega (arith, call_noted c r own d x, ap no_memory v)
 
-  follows_counts : CallPath c r own d → Draws (draws_failed d.steps) d.drawn old between → Follows p r u bytes between new → CountsRefusal u d.steps old new
+  follows_counts : CallPath c r own d → Draws (draws_failed d.steps) d.drawn old between → AnswersByRing p r u bytes between new → CountsRefusal u d.steps old new
   follows_counts x draws (refused why e k v b s) =
       let by = call_counted c (refusal why) own d (subst (λ (y : Result RingOf Refusal). CallPath c y own d) e x) (not_memory why k) in
       same_counts u (used.Refused why) d.steps old new v (record {

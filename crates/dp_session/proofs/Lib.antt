@@ -3,7 +3,7 @@ pub mod Answers
 pub mod Sums
 pub mod Taking
 pub mod Drawing
-pub mod Turns
+pub mod Exchanges
 pub mod Sessions
 pub mod Freshness
 pub mod Whole

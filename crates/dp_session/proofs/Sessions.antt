@@ -29,9 +29,9 @@ use Rattle.dp_session.specs.declared.trace.Used.{Used}
 use Rattle.dp_session.specs.declared.trace.Used.TheVariants as used
 use Rattle.dp_session.specs.Frames.{frames, AreBodies, RefusesFrame}
 use Rattle.dp_session.specs.Replies.{reply_to}
-use Rattle.dp_session.specs.Serving.{SessionState, IsEntry, Serves, unread, unstarted, misdated, by_ring, by_place, Follows, IsByPlace, refused, answered, undrawn, stopped, lost, unheard}
+use Rattle.dp_session.specs.Serving.{SessionState, IsEntry, Serves, unread, unstarted, misdated, by_ring, by_place, AnswersByRing, IsByPlace, refused, answered, undrawn, stopped, lost, unheard}
 use Rattle.dp_session.proofs.Paths.{own_by_ring, placed_last}
-use Rattle.dp_session.proofs.Turns.{length-frame}
+use Rattle.dp_session.proofs.Exchanges.{length-frame}
 use Rattle.dp_session.specs.Session.{Chain, front_of, longest, reply_frame, session_output, IsListAfter, Outside, outside, OneMore, has_list, any_list, IsLongest, SoFar, IsSession, NoMore, EndsAt, EndsInput, EndsOutput, IsSpentEnd, bad_at}
 
 -- one entry more
@@ -99,7 +99,7 @@ HasFront (used.Refused why) own = Unit {0}
 HasFront (used.BadRequest place) own = Unit {0}
 HasFront used.NoMemory own = Unit {0}
 
-ring_front : (c : Call) (p : Request) (r : Result RingOf Refusal) (own : List Element) (d : Course) (u : Used) (bytes : List ℕ) (old new : DrawState) → CallPath c r own d → Follows p r u bytes old new → HasFront u own
+ring_front : (c : Call) (p : Request) (r : Result RingOf Refusal) (own : List Element) (d : Course) (u : Used) (bytes : List ℕ) (old new : DrawState) → CallPath c r own d → AnswersByRing p r u bytes old new → HasFront u own
 ring_front c p r own d u bytes old new x (refused why e k v b s) = subst (λ (w : Used). HasFront w own) (sym v) tt
 ring_front c p r own d u bytes old new x (answered ring e v n s) =
     subst (λ (w : Used). HasFront w own) (sym v) (ap length (sym (own_by_ring c ring own d (subst (λ (y : Result RingOf Refusal). CallPath c y own d) e x))))

@@ -15,7 +15,7 @@ use Rattle.dp_session.specs.declared.status.Status.{Status}
 use Rattle.dp_session.specs.declared.status.Status.TheVariants as status
 use Rattle.dp_session.specs.Frames.{frames, AreBodies, AreWhole, IsBadFrame, RefusesFrame, head_len, frame_len}
 use Rattle.dp_session.specs.Session.{Outside, IsSession, EndsInput, IsSpentEnd}
-use Rattle.dp_session.proofs.Turns.{length-frame}
+use Rattle.dp_session.proofs.Exchanges.{length-frame}
 use Rattle.dp_session.proofs.Sessions.{same_lengths}
 
 -- what is left behind frames of the bytes is the frames of the bodies behind theirs

@@ -11,7 +11,7 @@ use Rattle.dp_protector.specs.declared.protect.TheConstants.{MAX_PLAIN}
 use Rattle.dp_protector.specs.declared.refused.ProtectRefused.{ProtectRefused}
 use Rattle.dp_protector.specs.declared.refused.ProtectRefused.TheVariants as protecting
 use Rattle.dp_protector.specs.declared.refused.UnprotectRefused.{UnprotectRefused}
-use Rattle.dp_protector.specs.Opening.{Answers, opened, opening}
+use Rattle.dp_protector.specs.Opening.{IsDueAnswer, opened, opening}
 use Rattle.dp_protector.specs.Protect.{Drew, Sealed, draw_len, protects}
 use Rattle.dp_session.specs.declared.calls.Answered.{Answered}
 use Rattle.dp_session.specs.declared.calls.CallRefused.{CallRefused}
@@ -52,9 +52,9 @@ told (Err why) = Err why
 abbrev pub Unprotects : List (List ℕ) → List ℕ → Bool → Result RingOf Refusal → Result (Answered Opened) CallRefused → Type 0
 Unprotects chain payload allow r (Ok a) =
     (ring : RingOf) × (r ≡ Ok ring) × IsRingOf ring a
-    × Answers opening (told (Ok a)) (opened ring chain payload allow)
+    × IsDueAnswer opening (told (Ok a)) (opened ring chain payload allow)
 Unprotects chain payload allow r (Err (Node why)) = r ≡ Err (refusal why)
 Unprotects chain payload allow r (Err (Protect front why)) = ⊥
 Unprotects chain payload allow r (Err (Unprotect front why)) =
     (ring : RingOf) × (r ≡ Ok ring) × (front ≡ length ring.list)
-    × Answers opening (told (Err why)) (opened ring chain payload allow)
+    × IsDueAnswer opening (told (Err why)) (opened ring chain payload allow)

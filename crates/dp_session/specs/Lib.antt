@@ -8,6 +8,6 @@ pub mod Calls
 pub mod Frames
 pub mod Session
 pub mod Loans
-pub mod Turns
+pub mod Exchanges
 pub mod Fresh
 pub mod Shut

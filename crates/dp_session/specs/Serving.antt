@@ -51,13 +51,13 @@ Asks _ now own told a = ⊥
 -- what follows the path to a ring, where these bytes are drawn behind its steps: the path was refused;
 -- the request is answered by its ring; the draw fails that is due for its payload; no memory is found,
 -- before that draw, behind it, or for the reply that it failed
-pub data Follows (p : Request) (r : Result RingOf Refusal) (u : Used) (bytes : List ℕ) (old new : DrawState) : Type 0 where
-  refused : (why : NodeError) → r ≡ Err (refusal why) → why ≢ errors.Memory → u ≡ used.Refused why → bytes ≡ [] → new ≡ old → Follows p r u bytes old new
-  answered : (ring : RingOf) → r ≡ Ok ring → u ≡ used.Ring (length ring.list) ring.made_at → length bytes ≡ sealed_len p ring → Draws 0 bytes old new → Follows p r u bytes old new
-  undrawn : (ring : RingOf) → r ≡ Ok ring → 1 ≤ sealed_len p ring → u ≡ used.Refused errors.DrawFault → bytes ≡ [] → Draws 1 [] old new → Follows p r u bytes old new
-  stopped : u ≡ used.NoMemory → bytes ≡ [] → new ≡ old → Follows p r u bytes old new
-  lost : (ring : RingOf) → r ≡ Ok ring → u ≡ used.NoMemory → length bytes ≡ sealed_len p ring → Draws 0 bytes old new → Follows p r u bytes old new
-  unheard : (ring : RingOf) → r ≡ Ok ring → 1 ≤ sealed_len p ring → u ≡ used.NoMemory → bytes ≡ [] → Draws 1 [] old new → Follows p r u bytes old new
+pub data AnswersByRing (p : Request) (r : Result RingOf Refusal) (u : Used) (bytes : List ℕ) (old new : DrawState) : Type 0 where
+  refused : (why : NodeError) → r ≡ Err (refusal why) → why ≢ errors.Memory → u ≡ used.Refused why → bytes ≡ [] → new ≡ old → AnswersByRing p r u bytes old new
+  answered : (ring : RingOf) → r ≡ Ok ring → u ≡ used.Ring (length ring.list) ring.made_at → length bytes ≡ sealed_len p ring → Draws 0 bytes old new → AnswersByRing p r u bytes old new
+  undrawn : (ring : RingOf) → r ≡ Ok ring → 1 ≤ sealed_len p ring → u ≡ used.Refused errors.DrawFault → bytes ≡ [] → Draws 1 [] old new → AnswersByRing p r u bytes old new
+  stopped : u ≡ used.NoMemory → bytes ≡ [] → new ≡ old → AnswersByRing p r u bytes old new
+  lost : (ring : RingOf) → r ≡ Ok ring → u ≡ used.NoMemory → length bytes ≡ sealed_len p ring → Draws 0 bytes old new → AnswersByRing p r u bytes old new
+  unheard : (ring : RingOf) → r ≡ Ok ring → 1 ≤ sealed_len p ring → u ≡ used.NoMemory → bytes ≡ [] → Draws 1 [] old new → AnswersByRing p r u bytes old new
 
 -- what is used where a path comes to a place, or is refused
 abbrev pub IsByPlace : Result ℕ Refusal → Used → Type 0
@@ -74,7 +74,7 @@ pub data Serves (q : Result Request BadRequest) (now : ℕ) (u : Used) (drawn : 
   unread : (why : BadRequest) → q ≡ Err why → u ≡ used.BadRequest why.place → drawn ≡ [] → new ≡ old → Serves q now u drawn old new
   unstarted : u ≡ used.NoMemory → drawn ≡ [] → new ≡ old → Serves q now u drawn old new
   misdated : (p : Request) → q ≡ Ok p → HasBadDates p now → u ≡ used.Refused errors.BadDates → drawn ≡ [] → new ≡ old → Serves q now u drawn old new
-  by_ring : (p : Request) → q ≡ Ok p → needs_ring p ≡ true → (HasBadDates p now → ⊥) → (r : Result RingOf Refusal) → (between : DrawState) → (x : Does (CallPath (call (asking p now) (missing_of p) old.host old.store.list new.store.list) r new.host.own) old (record new { draws = between })) → (bytes : List ℕ) → drawn ≡ x.course.drawn ++ bytes → Follows p r u bytes between new.draws → Serves q now u drawn old new
+  by_ring : (p : Request) → q ≡ Ok p → needs_ring p ≡ true → (HasBadDates p now → ⊥) → (r : Result RingOf Refusal) → (between : DrawState) → (x : Does (CallPath (call (asking p now) (missing_of p) old.host old.store.list new.store.list) r new.host.own) old (record new { draws = between })) → (bytes : List ℕ) → drawn ≡ x.course.drawn ++ bytes → AnswersByRing p r u bytes between new.draws → Serves q now u drawn old new
   by_place : (p : Request) → q ≡ Ok p → (HasBadDates p now → ⊥) → (a : Asked) → Asks p now old.host.own new.store.list a → (r : Result ℕ Refusal) → (x : Does (PlacePath a r new.host.own) old new) → x.course.drawn ≡ drawn → IsByPlace r u → Serves q now u drawn old new
 
 -- the list that an entry brings to the trace: the one that the pass has seen afterwards

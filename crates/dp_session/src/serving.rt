@@ -15,7 +15,7 @@ ghost use Rattle.dp_session.specs.Session.{EndsAt, OneMore, OneServed, outside};
 ghost use Rattle.dp_session.specs.Needs.{IsShort};
 ghost use Rattle.dp_session.specs.Loans.{SameSession, standing};
 ghost use Rattle.dp_session.specs.Serving.{Served, after, before};
-ghost use Rattle.dp_session.specs.Turns.{turn_of, reply_bytes, list_after, halt_of, IsTurn};
+ghost use Rattle.dp_session.specs.Exchanges.{exchange_of, reply_bytes, list_after, halt_of, IsExchange};
 
 use crate::answer::answer;
 use crate::app::Setting;
@@ -50,7 +50,7 @@ fn ended(status: Status) -> Halt
 /// What one request came to: its entry, the frame of its reply, where memory was found for one, and
 /// the list that it brings to the trace.
 #[derive(Debug, Drop)]
-pub(crate) struct Turn {
+pub(crate) struct Exchange {
     pub entry: Entry,
     pub reply: Option<Vec<u8>>,
     pub list: Option<ElementList>,
@@ -105,16 +105,16 @@ fn answer_taped<'t, W, H: Host<W>, R: Repo<W>, D: Draw>(
     answer(&mut lent, setting, now, request)
 }
 
-// The turn of a request that was answered, or found no memory.
-fn turn_of(
+// The exchange of a request that was answered, or found no memory.
+fn exchange_of(
     answered: Result<Response, Memory>,
     now: u64,
     need: u64,
     seen: u64,
     steps: StepList,
     drawn: Drawn,
-) -> Turn
-    ensures { result ≡ turn_of answered now need seen steps drawn }
+) -> Exchange
+    ensures { result ≡ exchange_of answered now need seen steps drawn }
 {
     let (used, reply, list) = match answered {
         Ok(Response { used, reply, list }) => (used, Some(reply), list),
@@ -128,7 +128,7 @@ fn turn_of(
         steps,
         drawn,
     };
-    Turn { entry, reply, list }
+    Exchange { entry, reply, list }
 }
 
 // Writes the frame of a reply, or the one that no memory was found.
@@ -210,12 +210,12 @@ impl<W, H: Host<W>, R: Repo<W>, D: Draw, C: Clock> Session<'_, '_, '_, '_, '_, '
     }
 
     // Serves the request of a body at the moment, in ticks; a body that isn't kept finds no memory.
-    fn serve_body(&mut self, now: u64, body: &Option<Vec<u8>>, steps: StepList) -> Turn
+    fn serve_body(&mut self, now: u64, body: &Option<Vec<u8>>, steps: StepList) -> Exchange
         requires moment { now ≤ LAST }
         requires body { IfSome body.now (λ bytes. length bytes.items ≤ MAX_BODY) }
         requires free { (H.state self.old.host.now).held ≡ false }
         requires room { steps ≡ [] }
-        ensures turn { (bytes : List ℕ) → IsKept body.now bytes → IsTurn
+        ensures turn { (bytes : List ℕ) → IsKept body.now bytes → IsExchange
             self.old.setting.app.now bytes now result
             (standing H.state R.store D.draws None self.old)
             (standing H.state R.store D.draws None self.new) }
@@ -230,9 +230,9 @@ impl<W, H: Host<W>, R: Repo<W>, D: Draw, C: Clock> Session<'_, '_, '_, '_, '_, '
                 let need = need_of(request);
                 let mut steps = steps;
                 let (answered, drawn) = self.answer_told(now, request, &mut steps);
-                turn_of(answered, now, need, seen, steps, drawn)
+                exchange_of(answered, now, need, seen, steps, drawn)
             }
-            None => turn_of(Err(Memory), now, 0, seen, steps, Drawn::none()),
+            None => exchange_of(Err(Memory), now, 0, seen, steps, Drawn::none()),
         }
     }
 
@@ -267,7 +267,7 @@ impl<W, H: Host<W>, R: Repo<W>, D: Draw, C: Clock> Session<'_, '_, '_, '_, '_, '
     {
         let now = self.clock.now().min(LAST);
         let turn = self.serve_body(now, &body.kept, steps);
-        let Turn {
+        let Exchange {
             entry,
             reply,
             list: longer,

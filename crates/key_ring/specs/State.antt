@@ -13,8 +13,8 @@ pub record State : Type 0 where
   pub is_default : Bool
 
 -- a state without where its key lies in memory
-abbrev pub seen : KeyState → State
-seen s = record { key = s.key.now; revoked = s.revoked; usable = s.usable; is_default = s.is_default }
+abbrev pub key_state : KeyState → State
+key_state s = record { key = s.key.now; revoked = s.revoked; usable = s.usable; is_default = s.is_default }
 
 -- whether the key has the id
 abbrev pub has_id : ℕ → Option KeyRecord → Bool

@@ -6,7 +6,7 @@ ghost use Rattle.std.specs.Option.{option_copied, option_or};
 ghost use Rattle.dp_base.specs.declared.ticks.TheConstants.{LAST};
 ghost use Rattle.key_ring.specs.Ring.{IsRing, ring_of, until_with, due, extended, policy_at, preferred_key, default_key};
 ghost use Rattle.key_ring.specs.Keys.{ring_keys};
-ghost use Rattle.key_ring.specs.State.{seen, has_id, lookup_of};
+ghost use Rattle.key_ring.specs.State.{key_state, has_id, lookup_of};
 ghost use Rattle.key_ring.specs.Listing.{listing};
 ghost use Rattle.key_ring.specs.declared.listing.TheConstants.{LISTING_LIMIT};
 
@@ -238,7 +238,7 @@ impl Ring {
 
     /// What the ring says of the key with the id.
     pub fn lookup(&self, id: &KeyId) -> Option<KeyState<'_>>
-        ensures { option_map seen result ≡ lookup_of self.now.list self.now.made_at id.now.0 }
+        ensures { option_map key_state result ≡ lookup_of self.now.list self.now.made_at id.now.0 }
     {
         let found = key_with(self.keys(), id)?;
         let key = &found.key;

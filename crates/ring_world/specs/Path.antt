@@ -42,21 +42,21 @@ base c s = longer c.own s.ring.list
 
 -- what the holder of the turn does: no memory is found for its look; that is enough, or differs from
 -- the own list at a place; or it flies
-pub data Turn : Type 0 where
-  Blind : ℕ → Turn
-  Rests : Sight → Turn
-  Parts : Sight → ℕ → Turn
-  Flies : Sight → Flight → Turn
+pub data HolderPath : Type 0 where
+  LookFailed : ℕ → HolderPath
+  Rests : Sight → HolderPath
+  Parts : Sight → ℕ → HolderPath
+  Flies : Sight → Flight → HolderPath
 
 -- what a call does: no memory is found for its first look; that is enough; somebody else has the
 -- turn, and it is used though it is due; it is too short, and the call reads for itself; the turn is
 -- taken; the private read fails, or finds fewer elements; the look differs from the own list at a place
 pub data Path : Type 0 where
-  Unseen : ℕ → Path
+  FirstLookFailed : ℕ → Path
   AtOnce : Sight → Path
   Stale : Sight → ℕ → Path
   Alone : Sight → ℕ → List Element → Path
-  Turned : Sight → Turn → Path
+  Turned : Sight → HolderPath → Path
   AloneFailed : Sight → ℕ → Path
   AloneShort : Sight → ℕ → ℕ → ℕ → Path
   Apart : Sight → ℕ → Path
@@ -69,20 +69,20 @@ Sees c s = IfSome c.single (λ one. s ≡ one)
 abbrev pub Wants : Call → ℕ → Type 0
 Wants c n = IfSome c.single (λ one. n ≡ one.want)
 
-abbrev pub IsTurn : Call → Turn → Type 0
-IsTurn c (Blind n) = Wants c n
-IsTurn c (Rests t) = Sees c t × (is_enough c t ≡ true)
-IsTurn c (Parts t at) = Sees c t × IsFirstDifference c.own t.ring.list at
-IsTurn c (Flies t x) = Sees c t × (is_enough c t ≡ false) × IsFlight c.terms (base c t) x
+abbrev pub IsHolderPath : Call → HolderPath → Type 0
+IsHolderPath c (LookFailed n) = Wants c n
+IsHolderPath c (Rests t) = Sees c t × (is_enough c t ≡ true)
+IsHolderPath c (Parts t at) = Sees c t × IsFirstDifference c.own t.ring.list at
+IsHolderPath c (Flies t x) = Sees c t × (is_enough c t ≡ false) × IsFlight c.terms (base c t) x
 
 -- a pass that is alone is never told Busy
 abbrev pub IsPath : Call → Path → Type 0
-IsPath c (Unseen n) = Wants c n
+IsPath c (FirstLookFailed n) = Wants c n
 IsPath c (AtOnce s) = Sees c s × (is_enough c s ≡ true)
 IsPath c (Stale s h) = Sees c s × (c.single ≡ None) × (is_enough c s ≡ false) × (target c ≤ length s.ring.list)
 IsPath c (Alone s h es) =
     Sees c s × (c.single ≡ None) × (length s.ring.list < target c) × IsReadFrom c.terms.told (base c s) es
-IsPath c (Turned s t) = Sees c s × (is_enough c s ≡ false) × IsTurn c t
+IsPath c (Turned s t) = Sees c s × (is_enough c s ≡ false) × IsHolderPath c t
 IsPath c (AloneFailed s h) = Sees c s × (c.single ≡ None) × (length s.ring.list < target c)
 IsPath c (AloneShort s h had got) =
     Sees c s × (c.single ≡ None) × (length s.ring.list < target c) × (had ≡ length (base c s))
@@ -91,18 +91,18 @@ IsPath c (Apart s at) = Sees c s × IsFirstDifference c.own s.ring.list at
 
 -- each ring that was looked at agrees with the list seen as far as both reach, but for the one that
 -- is told as a fork
-abbrev pub InLineTurn : Call → Turn → Type 0
-InLineTurn c (Blind n) = Unit {0}
-InLineTurn c (Rests t) = Agree c.own t.ring.list
-InLineTurn c (Parts t at) = Unit {0}
-InLineTurn c (Flies t x) = Agree c.own t.ring.list
+abbrev pub InLineHolder : Call → HolderPath → Type 0
+InLineHolder c (LookFailed n) = Unit {0}
+InLineHolder c (Rests t) = Agree c.own t.ring.list
+InLineHolder c (Parts t at) = Unit {0}
+InLineHolder c (Flies t x) = Agree c.own t.ring.list
 
 abbrev pub InLine : Call → Path → Type 0
-InLine c (Unseen n) = Unit {0}
+InLine c (FirstLookFailed n) = Unit {0}
 InLine c (AtOnce s) = Agree c.own s.ring.list
 InLine c (Stale s h) = Agree c.own s.ring.list
 InLine c (Alone s h es) = Agree c.own s.ring.list
-InLine c (Turned s t) = Agree c.own s.ring.list × InLineTurn c t
+InLine c (Turned s t) = Agree c.own s.ring.list × InLineHolder c t
 InLine c (AloneFailed s h) = Agree c.own s.ring.list
 InLine c (AloneShort s h had got) = Agree c.own s.ring.list
 InLine c (Apart s at) = Unit {0}
@@ -115,14 +115,14 @@ sight_course s more = looking (sight_steps s ++ more) (s.ring ∷ [])
 abbrev pub after_sight : Sight → List Step → Course → Course
 after_sight s more = led (sight_steps s ++ more) (s.ring ∷ [])
 
-abbrev pub turn_course : Call → Turn → Course
-turn_course c (Blind n) = stepped (Want n ∷ [])
+abbrev pub turn_course : Call → HolderPath → Course
+turn_course c (LookFailed n) = stepped (Want n ∷ [])
 turn_course c (Rests t) = sight_course t []
 turn_course c (Parts t at) = sight_course t []
 turn_course c (Flies t x) = after_sight t [] (flight_course c.terms t x)
 
 abbrev pub path_course : Call → Path → Course
-path_course c (Unseen n) = stepped (Want n ∷ [])
+path_course c (FirstLookFailed n) = stepped (Want n ∷ [])
 path_course c (AtOnce s) = sight_course s []
 path_course c (Stale s h) = sight_course s (Busy h ∷ [])
 path_course c (Alone s h es) = sight_course s (Busy h ∷ PrivateRead (length es) ∷ [])
@@ -132,14 +132,14 @@ path_course c (AloneShort s h had got) = sight_course s (Busy h ∷ WentBack had
 path_course c (Apart s at) = sight_course s []
 
 -- the ring to which a path comes, or its refusal; a private ring has no jitter
-abbrev pub turn_end : Call → Turn → Result RingOf Refusal
-turn_end c (Blind n) = Err Memory
+abbrev pub turn_end : Call → HolderPath → Result RingOf Refusal
+turn_end c (LookFailed n) = Err Memory
 turn_end c (Rests t) = Ok t.ring
 turn_end c (Parts t at) = Err (Forked at c.own t.ring.list)
 turn_end c (Flies t x) = gather_end c.terms x
 
 abbrev pub path_end : Call → Path → Result RingOf Refusal
-path_end c (Unseen n) = Err Memory
+path_end c (FirstLookFailed n) = Err Memory
 path_end c (AtOnce s) = Ok s.ring
 path_end c (Stale s h) = Ok s.ring
 path_end c (Alone s h es) = Ok (ring_of es c.terms.now 0)
@@ -151,8 +151,8 @@ path_end c (Apart s at) = Err (Forked at c.own s.ring.list)
 -- the course of what the holder does, which comes to the ring or the refusal; or, for want of memory,
 -- a front of one
 pub data TurnGives (c : Call) (result : Result RingOf Refusal) (d : Course) : Type 0 where
-  turned : (x : Turn) → IsTurn c x → InLineTurn c x → turn_end c x ≡ result → d ≡ turn_course c x → TurnGives c result d
-  turn_stopped : (x : Turn) → IsTurn c x → InLineTurn c x → result ≡ Err Memory → IsFront d (turn_course c x) → TurnGives c result d
+  turned : (x : HolderPath) → IsHolderPath c x → InLineHolder c x → turn_end c x ≡ result → d ≡ turn_course c x → TurnGives c result d
+  turn_stopped : (x : HolderPath) → IsHolderPath c x → InLineHolder c x → result ≡ Err Memory → IsFront d (turn_course c x) → TurnGives c result d
 
 -- the course of a lawful path that comes to the ring or the refusal; or, for want of memory, a front
 -- of one, and Give where the turn is held

@@ -12,7 +12,7 @@ use Rattle.ring_world.specs.declared.step.Step.TheVariants.{Take, Busy, Give, Re
 use Rattle.ring_world.specs.declared.step.TheConstants.{SECOND_TRY_SPAN}
 use Rattle.ring_world.specs.Course.{Course, idle, stepped, led, closed, IsFront, IsCutOff}
 use Rattle.ring_world.specs.Flight.{Refusal, Memory, IsFlight}
-use Rattle.ring_world.specs.Path.{Call, Turn, Blind, Rests, Parts, Flies, Sees, Wants, base, InLineTurn, turn_course, turn_end}
+use Rattle.ring_world.specs.Path.{Call, HolderPath, LookFailed, Rests, Parts, Flies, Sees, Wants, base, InLineHolder, turn_course, turn_end}
 
 -- whether a step read the repository's list
 abbrev pub reads : Step → Bool
@@ -42,11 +42,11 @@ misses c s r =
 pub data Settle : Type 0 where
   Keeps : Settle
   Stays : ℕ → Settle
-  Again : Turn → Settle
+  Again : HolderPath → Settle
 
 -- what the holder of the turn does then: it isn't asked whether the look is enough
-abbrev pub IsSecond : Call → Turn → Type 0
-IsSecond c (Blind n) = Wants c n
+abbrev pub IsSecond : Call → HolderPath → Type 0
+IsSecond c (LookFailed n) = Wants c n
 IsSecond c (Rests t) = ⊥
 IsSecond c (Parts t at) = Sees c t × IsFirstDifference c.own t.ring.list at
 IsSecond c (Flies t x) = Sees c t × IsFlight c.terms (base c t) x
@@ -60,7 +60,7 @@ IsSettled c s r (Again t) = (misses c s r ≡ true) × IsSecond c t
 abbrev pub InLineSettle : Call → Settle → Type 0
 InLineSettle c Keeps = Unit {0}
 InLineSettle c (Stays h) = Unit {0}
-InLineSettle c (Again t) = InLineTurn c t
+InLineSettle c (Again t) = InLineHolder c t
 
 abbrev pub settle_course : Call → Settle → Course
 settle_course c Keeps = idle
@@ -76,11 +76,11 @@ settle_end c r (Again t) = turn_end c t
 -- the course of what the holder does, which comes to the ring or the refusal; or, for want of memory,
 -- a front of one
 pub data SecondGives (c : Call) (result : Result RingOf Refusal) (d : Course) : Type 0 where
-  flew : (x : Turn) → IsSecond c x → InLineTurn c x → turn_end c x ≡ result → d ≡ turn_course c x → SecondGives c result d
-  fly_stopped : (x : Turn) → IsSecond c x → InLineTurn c x → result ≡ Err Memory → IsFront d (turn_course c x) → SecondGives c result d
+  flew : (x : HolderPath) → IsSecond c x → InLineHolder c x → turn_end c x ≡ result → d ≡ turn_course c x → SecondGives c result d
+  fly_stopped : (x : HolderPath) → IsSecond c x → InLineHolder c x → result ≡ Err Memory → IsFront d (turn_course c x) → SecondGives c result d
 
 -- the course from the ring at hand, after these steps, to the ring that answers or the refusal; or,
 -- for want of memory, a front of one, and Give where the turn is held
 pub data SettleGives (c : Call) (s : List Step) (r : RingOf) (result : Result RingOf Refusal) (d : Course) : Type 0 where
   settled : (x : Settle) → IsSettled c s r x → InLineSettle c x → settle_end c r x ≡ result → d ≡ settle_course c x → SettleGives c s r result d
-  settle_stopped : (t : Turn) → IsSettled c s r (Again t) → InLineTurn c t → result ≡ Err Memory → IsCutOff d (settle_course c (Again t)) → SettleGives c s r result d
+  settle_stopped : (t : HolderPath) → IsSettled c s r (Again t) → InLineHolder c t → result ≡ Err Memory → IsCutOff d (settle_course c (Again t)) → SettleGives c s r result d

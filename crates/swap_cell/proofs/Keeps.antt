@@ -12,7 +12,7 @@ use Rattle.atomic_table.specs.Seated.{TableId}
 use Rattle.atomic_table.specs.Table.{State, Me, Act, takes, gives, keeps, step, opening, rest, Valid, homes_after, carried_after, Allows, Splits, Joins}
 use Rattle.atomic_table.proofs.Lists.{at_set, set_here, set_else, set_again, at_longer, at_last, some_there, exchanged}
 use Rattle.swap_cell.specs.declared.board.Item.{Item}
-use Rattle.swap_cell.specs.declared.board.Sight.{Sight}
+use Rattle.swap_cell.specs.declared.board.Knowledge.{Knowledge}
 use Rattle.swap_cell.specs.declared.handles.Viewer.{Viewer}
 use Rattle.swap_cell.specs.Cells.{HaveSlots, value_of, viewer_slot}
 use Rattle.swap_cell.specs.Rule.{Each, InLine, On, seated, Fits, IsGrowing, Rules, Kept, item, setter}
@@ -53,7 +53,7 @@ pub same_head : {A : Type 0} (l : List (ℕ × A)) (j k : ℕ) (a b : A) (xs ys 
 same_head l j k a b xs ys e f = ap (λ z. headed z a) (sym e ∙ f)
 
 -- what a seat has that had no slot before
-pub one_slot : {T : Type 0} (m : Me (Item T) (Sight T)) (w : Sight T) (r : ℕ) (y : Item T) (c : List (ℕ × Item T)) → m ≡ (w, (r, y) ∷ c) → c ≡ [] → m ≡ (w, (r, y) ∷ [])
+pub one_slot : {T : Type 0} (m : Me (Item T) (Knowledge T)) (w : Knowledge T) (r : ℕ) (y : Item T) (c : List (ℕ × Item T)) → m ≡ (w, (r, y) ∷ c) → c ≡ [] → m ≡ (w, (r, y) ∷ [])
 one_slot m w r y c e f = e ∙ ap (λ z. (w, (r, y) ∷ z)) f
 
 -- what holds of each element at its place, and of one more
@@ -114,40 +114,40 @@ pub begins_value : {T : Type 0} (xs : List (Item T)) (x : Item T) → xs ≡ x �
 begins_value xs x e = ap (map value_of) e ∙ ap (λ z. x.value ∷ z) (sym (drop-map value_of 1 xs))
 
 -- what a seat has that took a slot, after steps that found it taken
-pub has_locked : {T : Type 0} (m m' m0 : Me (Item T) (Sight T)) (r : ℕ) (y : Item T) → m' ≡ (record m.0 { found = Some y; slot = r + 1 }, (r, y) ∷ m.1) → m ≡ m0 → m0.1 ≡ []
+pub has_locked : {T : Type 0} (m m' m0 : Me (Item T) (Knowledge T)) (r : ℕ) (y : Item T) → m' ≡ (record m.0 { found = Some y; slot = r + 1 }, (r, y) ∷ m.1) → m ≡ m0 → m0.1 ≡ []
     → (x : Item T) × (m' ≡ (record m0.0 { found = Some x; slot = r + 1 }, (r, x) ∷ []))
 has_locked {T} m m' m0 r y is same free = (
   y,
-  is ∙ (ap (λ (z : Me (Item T) (Sight T)). (record z.0 { found = Some y; slot = r + 1 }, (r, y) ∷ z.1)) same ∙ ap (λ (c : List (ℕ × Item T)). (record m0.0 { found = Some y; slot = r + 1 }, (r, y) ∷ c)) free),
+  is ∙ (ap (λ (z : Me (Item T) (Knowledge T)). (record z.0 { found = Some y; slot = r + 1 }, (r, y) ∷ z.1)) same ∙ ap (λ (c : List (ℕ × Item T)). (record m0.0 { found = Some y; slot = r + 1 }, (r, y) ∷ c)) free),
 )
 
 module _ {T : Type 0} (extends : T → T → Type 0) where
   abbrev St : Type 0
-  St = State (Item T) (Sight T)
+  St = State (Item T) (Knowledge T)
 
   abbrev Sat : Type 0
-  Sat = Me (Item T) (Sight T)
+  Sat = Me (Item T) (Knowledge T)
 
   abbrev Home : Type 0
   Home = maybe.Option (Item T)
 
   -- the state with these words, slots and views
-  abbrev laid : List ℕ → List Home → List (Sight T) → St
+  abbrev laid : List ℕ → List Home → List (Knowledge T) → St
   laid ws hs vs = record { words = ws; homes = hs; views = vs }
 
   -- the seat id goes from v to w
-  moved : (chain chain' : List T) (s : St) (id : ℕ) (v w : Sight T) (words' : List ℕ) (homes' : List Home)
+  moved : (chain chain' : List T) (s : St) (id : ℕ) (v w : Knowledge T) (words' : List ℕ) (homes' : List Home)
       → Rules extends chain s → seated s.views id v → IsGrowing extends chain' → length words' ≡ 16 * length homes'
       → ((r : ℕ) → r < length homes' → get_or words' (16 * r) 0 ≡ 0 → (y : Item T) × (get_elem? homes' r ≡ some (some y)) × On chain' y)
       → Fits chain' words' w
-      → ((i : ℕ) (u : Sight T) → i ≢ id → seated s.views i u → Fits chain' words' u)
-      → ((i : ℕ) (u : Sight T) → i ≢ id → seated s.views i u → 0 < w.slot → w.slot ≡ u.slot → ⊥)
+      → ((i : ℕ) (u : Knowledge T) → i ≢ id → seated s.views i u → Fits chain' words' u)
+      → ((i : ℕ) (u : Knowledge T) → i ≢ id → seated s.views i u → 0 < w.slot → w.slot ≡ u.slot → ⊥)
       → (w.sets ≡ true → v.sets ≡ true)
       → Rules extends chain' (laid words' homes' (set s.views id w))
   moved chain chain' s id v w words' homes' k at grows wide home fits others clash setting =
-      let At : ℕ → Sight T → Type 0 = seated (set s.views id w) in
-      let back : (j : ℕ) (u : Sight T) → At j u → u.sets ≡ true → (x : Sight T) × seated s.views j x × (x.sets ≡ true) = λ j u e on. ⊎_elim
-      (λ (t : (j ≡ id) × (w ≡ u)). (v, subst (λ (z : ℕ). seated s.views z v) (sym t.0) at, setting (ap (λ (x : Sight T). x.sets) t.1 ∙ on)))
+      let At : ℕ → Knowledge T → Type 0 = seated (set s.views id w) in
+      let back : (j : ℕ) (u : Knowledge T) → At j u → u.sets ≡ true → (x : Knowledge T) × seated s.views j x × (x.sets ≡ true) = λ j u e on. ⊎_elim
+      (λ (t : (j ≡ id) × (w ≡ u)). (v, subst (λ (z : ℕ). seated s.views z v) (sym t.0) at, setting (ap (λ (x : Knowledge T). x.sets) t.1 ∙ on)))
       (λ (t : (j ≢ id) × seated s.views j u). (u, t.1, on)) (at_set s.views id j w u e) in
       record {
         grows = grows;
@@ -155,11 +155,11 @@ module _ {T : Type 0} (extends : T → T → Type 0) where
         home = home;
         each = λ i u e. ⊎_elim (λ (t : (i ≡ id) × (w ≡ u)). subst (Fits chain' words') t.1 fits) (λ (t : (i ≢ id) × seated s.views i u). others i u t.0 t.1) (at_set s.views id i w u e);
         own = λ i j a b ea eb pos same. ⊎_elim
-            (λ (x : (i ≡ id) × (w ≡ a)). let ws : w.slot ≡ a.slot = ap (λ (z : Sight T). z.slot) x.1 in ⊎_elim
+            (λ (x : (i ≡ id) × (w ≡ a)). let ws : w.slot ≡ a.slot = ap (λ (z : Knowledge T). z.slot) x.1 in ⊎_elim
             (λ (y : (j ≡ id) × (w ≡ b)). x.0 ∙ sym y.0)
             (λ (y : (j ≢ id) × seated s.views j b). absurd (clash j b y.0 y.1 (subst (λ (z : ℕ). 0 < z) (sym ws) pos) (ws ∙ same))) (at_set s.views id j w b eb))
             (λ (x : (i ≢ id) × seated s.views i a). ⊎_elim
-            (λ (y : (j ≡ id) × (w ≡ b)). let ws : w.slot ≡ b.slot = ap (λ (z : Sight T). z.slot) y.1 in
+            (λ (y : (j ≡ id) × (w ≡ b)). let ws : w.slot ≡ b.slot = ap (λ (z : Knowledge T). z.slot) y.1 in
             absurd (clash i a x.0 x.1 (subst (λ (z : ℕ). 0 < z) (same ∙ sym ws) pos) (ws ∙ sym same)))
             (λ (y : (j ≢ id) × seated s.views j b). k.own i j a b x.1 y.1 pos same) (at_set s.views id j w b eb)) (at_set s.views id i w a ea);
         one = λ i j a b ea eb on on'. let x = back i a ea on in let y = back j b eb on' in k.one i j x.0 y.0 x.1 y.1 x.2 y.2;
@@ -173,24 +173,24 @@ module _ {T : Type 0} (extends : T → T → Type 0) where
   else_word s r r' z ne = get_or-set_other s.words (16 * r) (16 * r') z 0 (λ e. ne (omega arith))
 
   -- a step that finds nothing to do
-  idles : (s : St) (chain : List T) (i n id : ℕ) (v : Sight T) → Rules extends chain s → seated s.views id v → n ≡ get_or s.words i 0
+  idles : (s : St) (chain : List T) (i n id : ℕ) (v : Knowledge T) → Rules extends chain s → seated s.views id v → n ≡ get_or s.words i 0
       → Kept extends (laid (set s.words i n) s.homes (set s.views id v))
   idles s chain i n id v k at e = (
     chain,
     subst (λ (ws : List ℕ). Rules extends chain (laid ws s.homes (set s.views id v))) (sym (ap (λ (z : ℕ). set s.words i z) e ∙ set-get_or s.words i 0))
-        (subst (λ (vs : List (Sight T)). Rules extends chain (laid s.words s.homes vs)) (sym (set_again s.views id v at)) k),
+        (subst (λ (vs : List (Knowledge T)). Rules extends chain (laid s.words s.homes vs)) (sym (set_again s.views id v at)) k),
   )
 
   pub locks : (slots id r : ℕ) (me : Sat) → r < slots → Allows (Kept extends) slots id me (16 * r) (λ n. either (eqb n 0) 1 n) (locked (step slots (16 * r) 0 1 none) me)
   locks slots id r me within s kept len at lt =
-      let v : Sight T = me.0 in let n : ℕ = get_or s.words (16 * r) 0 in let chain = kept.0 in let k = kept.1 in let h = k.each id v at in
+      let v : Knowledge T = me.0 in let n : ℕ = get_or s.words (16 * r) 0 in let chain = kept.0 in let k = kept.1 in let h = k.each id v at in
       let inside : r < length s.homes = omega arith in
-      exchanged n 0 1 (λ (z : ℕ). (w : Sight T) × (a : Act (Item T)) × Valid s.homes me.1 a
+      exchanged n 0 1 (λ (z : ℕ). (w : Knowledge T) × (a : Act (Item T)) × Valid s.homes me.1 a
       × Kept extends (laid (set s.words (16 * r) z) (homes_after s.homes me.1 a) (set s.views id w))
       × locked (step slots (16 * r) 0 1 none) me n (w, carried_after me.1 a))
-      (λ free. let found = k.home r inside free in let y : Item T = found.0 in let w : Sight T = record v { found = Some y; slot = r + 1 } in
+      (λ free. let found = k.home r inside free in let y : Item T = found.0 in let w : Knowledge T = record v { found = Some y; slot = r + 1 } in
       let words' : List ℕ = set s.words (16 * r) 1 in let homes' : List Home = set s.homes r none in let here = at_word s chain r 1 k inside in
-      let has : (u : Sight T) → ((r' : ℕ) → u.slot ≡ r' + 1 → r' ≢ r → get_or s.words (16 * r') 0 ≢ 0) → (r' : ℕ) → u.slot ≡ r' + 1 → get_or words' (16 * r') 0 ≢ 0 =
+      let has : (u : Knowledge T) → ((r' : ℕ) → u.slot ≡ r' + 1 → r' ≢ r → get_or s.words (16 * r') 0 ≢ 0) → (r' : ℕ) → u.slot ≡ r' + 1 → get_or words' (16 * r') 0 ≢ 0 =
       λ u old r' e. dite (ℕ_discrete r' r) (λ same z. let one : get_or words' (16 * r') 0 ≡ 1 = ap (λ (q : ℕ). get_or words' (16 * q) 0) same ∙ here in absurd (omega arith))
       (λ ne z. old r' e ne (sym (else_word s r r' 1 ne) ∙ z)) in
       let longs = length-set s.words (16 * r) 1 in let longs' = length-set s.homes r none in let wide = k.wide in (
@@ -219,13 +219,13 @@ module _ {T : Type 0} (extends : T → T → Type 0) where
       (λ busy. (v, keeps, tt, idles s chain (16 * r) n id v k at refl, ((λ free. absurd (busy free)), (λ _. refl))))
 
   -- the slot r is given back with y, which the seat found there or has
-  puts : (slots id r : ℕ) (v : Sight T) (y : Item T) (mine : Option (Item T)) (me : Sat) → me ≡ (v, (r, y) ∷ []) → v.slot ≡ r + 1 → r < slots
+  puts : (slots id r : ℕ) (v : Knowledge T) (y : Item T) (mine : Option (Item T)) (me : Sat) → me ≡ (v, (r, y) ∷ []) → v.slot ≡ r + 1 → r < slots
       → ((v.found ≡ Some y) ⊎ (v.mine ≡ Some y)) → ((mine ≡ v.mine) ⊎ (mine ≡ v.found))
       → Allows (Kept extends) slots id me (16 * r) (λ _. 0) (λ _ m'. m' ≡ (record me.0 { slot = 0; mine = mine }, rest me.1))
   puts slots id r v y mine me is out within known kind = subst (λ (z : Sat). Allows (Kept extends) slots id z (16 * r) (λ _. 0) (λ _ m'. m' ≡ (record z.0 { slot = 0; mine = mine }, rest z.1))) (sym is)
       (λ s kept len at lt.
       let chain = kept.0 in let k = kept.1 in let h = k.each id v at in let inside : r < length s.homes = omega arith in
-      let w : Sight T = record v { slot = 0; mine = mine } in let words' : List ℕ = set s.words (16 * r) 0 in let homes' : List Home = set s.homes r (some y) in
+      let w : Knowledge T = record v { slot = 0; mine = mine } in let words' : List ℕ = set s.words (16 * r) 0 in let homes' : List Home = set s.homes r (some y) in
       let on : On chain y = ⊎_elim (h.found y) (h.mine y) known in
       let longs = length-set s.words (16 * r) 0 in let longs' = length-set s.homes r (some y) in let wide = k.wide in (
         w,
@@ -259,16 +259,16 @@ module _ {T : Type 0} (extends : T → T → Type 0) where
         refl,
       ))
 
-  pub frees : (slots id r : ℕ) (v : Sight T) (y : Item T) (me : Sat) → me ≡ (v, (r, y) ∷ []) → v.slot ≡ r + 1 → r < slots → ((v.found ≡ Some y) ⊎ (v.mine ≡ Some y))
+  pub frees : (slots id r : ℕ) (v : Knowledge T) (y : Item T) (me : Sat) → me ≡ (v, (r, y) ∷ []) → v.slot ≡ r + 1 → r < slots → ((v.found ≡ Some y) ⊎ (v.mine ≡ Some y))
       → Allows (Kept extends) slots id me (16 * r) (λ _. 0) (λ _. freed (step slots (16 * r) 0 0 none) me 0)
   frees slots id r v y me is out within known = puts slots id r v y me.0.mine me is out within known (inl (ap (λ (m : Sat). m.0.mine) is))
 
-  pub swaps : (slots id r : ℕ) (v : Sight T) (y : Item T) (me : Sat) → me ≡ (v, (r, y) ∷ []) → v.slot ≡ r + 1 → r < slots → ((v.found ≡ Some y) ⊎ (v.mine ≡ Some y))
+  pub swaps : (slots id r : ℕ) (v : Knowledge T) (y : Item T) (me : Sat) → me ≡ (v, (r, y) ∷ []) → v.slot ≡ r + 1 → r < slots → ((v.found ≡ Some y) ⊎ (v.mine ≡ Some y))
       → Allows (Kept extends) slots id me (16 * r) (λ _. 0) (λ _. swapped (step slots (16 * r) 0 0 none) me 0)
   swaps slots id r v y me is out within known = puts slots id r v y me.0.found me is out within known (inr (ap (λ (m : Sat). m.0.found) is))
 
   -- a step that leaves the words and the slots
-  stands : (s : St) (chain : List T) (i id : ℕ) (v w : Sight T) → Rules extends chain s → seated s.views id v → Fits chain s.words w → w.slot ≡ v.slot → (w.sets ≡ true → v.sets ≡ true)
+  stands : (s : St) (chain : List T) (i id : ℕ) (v w : Knowledge T) → Rules extends chain s → seated s.views id v → Fits chain s.words w → w.slot ≡ v.slot → (w.sets ≡ true → v.sets ≡ true)
       → Rules extends chain (laid s.words s.homes (set s.views id w))
   stands s chain i id v w k at fits slot setting = moved chain chain s id v w s.words s.homes k at k.grows k.wide k.home fits (λ j u ne e. k.each j u e)
       (λ j u ne e pos same. ne (sym (k.own id j v u at e (subst (λ (z : ℕ). 0 < z) slot pos) (sym slot ∙ same)))) setting
@@ -276,8 +276,8 @@ module _ {T : Type 0} (extends : T → T → Type 0) where
   pub looks : (slots id i : ℕ) (me : Sat) (x : Item T) → me.0.mine ≡ Some x → me.0.most ≤ x.number
       → Allows (Kept extends) slots id me i (λ n. n) (looked extends (step slots i 0 0 none) me)
   looks slots id i me x has up s kept len at lt =
-      let v : Sight T = me.0 in let chain = kept.0 in let k = kept.1 in let h = k.each id v at in let on : On chain x = h.mine x has in
-      let w : Sight T = record v { known = x ∷ v.known; most = x.number } in (
+      let v : Knowledge T = me.0 in let chain = kept.0 in let k = kept.1 in let h = k.each id v at in let on : On chain x = h.mine x has in
+      let w : Knowledge T = record v { known = x ∷ v.known; most = x.number } in (
         w,
         keeps,
         tt,
@@ -304,7 +304,7 @@ module _ {T : Type 0} (extends : T → T → Type 0) where
 
   pub lines : (slots id i : ℕ) (me : Sat) → Allows (Kept extends) slots id me i (λ n. n) (lined extends (step slots i 0 0 none) me)
   lines slots id i me s kept len at lt =
-      let v : Sight T = me.0 in let chain = kept.0 in let k = kept.1 in let h = k.each id v at in
+      let v : Knowledge T = me.0 in let chain = kept.0 in let k = kept.1 in let h = k.each id v at in
       let known = each_map (λ (q : Item T). On chain q × (q.number ≤ v.most)) (On chain) v.known (λ q t. t.0) h.knows in (
         v,
         keeps,
@@ -320,11 +320,11 @@ module _ {T : Type 0} (extends : T → T → Type 0) where
         ),
       )
 
-  pub tells : (id : ℕ) (v : Sight T) → Splits (Kept extends) id v v (follower v)
+  pub tells : (id : ℕ) (v : Knowledge T) → Splits (Kept extends) id v v (follower v)
   tells id v s kept at =
-      let chain = kept.0 in let k = kept.1 in let h = k.each id v at in let n : Sight T = follower v in (
+      let chain = kept.0 in let k = kept.1 in let h = k.each id v at in let n : Knowledge T = follower v in (
         chain,
-        subst (λ (vs : List (Sight T)). Rules extends chain (laid s.words s.homes (vs ++ n ∷ []))) (sym (set_again s.views id v at)) (record {
+        subst (λ (vs : List (Knowledge T)). Rules extends chain (laid s.words s.homes (vs ++ n ∷ []))) (sym (set_again s.views id v at)) (record {
           grows = k.grows;
           wide = k.wide;
           home = k.home;
@@ -337,21 +337,21 @@ module _ {T : Type 0} (extends : T → T → Type 0) where
           })) (at_end s.views n u i e);
           own = λ i j a b ea eb pos same. ⊎_elim
               (λ (x : seated s.views i a). ⊎_elim (λ (y : seated s.views j b). k.own i j a b x y pos same)
-              (λ (y : (j ≡ length s.views) × (n ≡ b)). let z : 0 ≡ b.slot = ap (λ (q : Sight T). q.slot) y.1 in absurd (omega arith)) (at_end s.views n b j eb))
-              (λ (x : (i ≡ length s.views) × (n ≡ a)). let z : 0 ≡ a.slot = ap (λ (q : Sight T). q.slot) x.1 in absurd (omega arith)) (at_end s.views n a i ea);
+              (λ (y : (j ≡ length s.views) × (n ≡ b)). let z : 0 ≡ b.slot = ap (λ (q : Knowledge T). q.slot) y.1 in absurd (omega arith)) (at_end s.views n b j eb))
+              (λ (x : (i ≡ length s.views) × (n ≡ a)). let z : 0 ≡ a.slot = ap (λ (q : Knowledge T). q.slot) x.1 in absurd (omega arith)) (at_end s.views n a i ea);
           one = λ i j a b ea eb on on'. ⊎_elim
               (λ (x : seated s.views i a). ⊎_elim (λ (y : seated s.views j b). k.one i j a b x y on on')
-              (λ (y : (j ≡ length s.views) × (n ≡ b)). absurd (false≢true (ap (λ (q : Sight T). q.sets) y.1 ∙ on'))) (at_end s.views n b j eb))
-              (λ (x : (i ≡ length s.views) × (n ≡ a)). absurd (false≢true (ap (λ (q : Sight T). q.sets) x.1 ∙ on))) (at_end s.views n a i ea);
+              (λ (y : (j ≡ length s.views) × (n ≡ b)). absurd (false≢true (ap (λ (q : Knowledge T). q.sets) y.1 ∙ on'))) (at_end s.views n b j eb))
+              (λ (x : (i ≡ length s.views) × (n ≡ a)). absurd (false≢true (ap (λ (q : Knowledge T). q.sets) x.1 ∙ on))) (at_end s.views n a i ea);
         }),
       )
 
-  learns_as : (id other : ℕ) (v w : Sight T) (mine : Option (Item T)) → ((mine ≡ v.mine) ⊎ (mine ≡ w.mine)) → Joins (Kept extends) id v other w (record (learnt v w) { mine = mine }) spent
+  learns_as : (id other : ℕ) (v w : Knowledge T) (mine : Option (Item T)) → ((mine ≡ v.mine) ⊎ (mine ≡ w.mine)) → Joins (Kept extends) id v other w (record (learnt v w) { mine = mine }) spent
   learns_as id other v w mine kind s kept at apart there =
-      let chain = kept.0 in let k = kept.1 in let h = k.each id v at in let both : Sight T = record (learnt v w) { mine = mine } in
+      let chain = kept.0 in let k = kept.1 in let h = k.each id v at in let both : Knowledge T = record (learnt v w) { mine = mine } in
       let there' : seated s.views other w = ⊎_elim (λ (t : (other ≡ id) × (both ≡ w)). absurd (apart t.0)) (λ (t : (other ≢ id) × seated s.views other w). t.1) (at_set s.views id other both w there) in
       let g = k.each other w there' in let m : ℕ = max v.most w.most in
-      let up : (x : Sight T) → x.most ≤ m → Each (λ q. On chain q × (q.number ≤ x.most)) x.known → Each (λ q. On chain q × (q.number ≤ m)) x.known =
+      let up : (x : Knowledge T) → x.most ≤ m → Each (λ q. On chain q × (q.number ≤ x.most)) x.known → Each (λ q. On chain q × (q.number ≤ m)) x.known =
       λ x le. each_map (λ (q : Item T). On chain q × (q.number ≤ x.most)) (λ (q : Item T). On chain q × (q.number ≤ m)) x.known (λ q t. let low = t.1 in (t.0, omega arith)) in
       let first = stands s chain 0 id v both k at (record {
         knows = each_append (λ (q : Item T). On chain q × (q.number ≤ m)) w.known v.known (up w (omega arith) g.knows) (up v (omega arith) h.knows);
@@ -367,17 +367,17 @@ module _ {T : Type 0} (extends : T → T → Type 0) where
             (λ j u ne e. first.each j u e) (λ j u ne e pos same. absurd (omega arith)) (λ z. absurd (false≢true z)),
       )
 
-  pub learns : (id other : ℕ) (v w : Sight T) → Joins (Kept extends) id v other w (learnt v w) spent
+  pub learns : (id other : ℕ) (v w : Knowledge T) → Joins (Kept extends) id v other w (learnt v w) spent
   learns id other v w = learns_as id other v w v.mine (inl refl)
 
-  pub renews : (id other : ℕ) (v w : Sight T) → Joins (Kept extends) id v other w (renewed v w) spent
+  pub renews : (id other : ℕ) (v w : Knowledge T) → Joins (Kept extends) id v other w (renewed v w) spent
   renews id other v w = learns_as id other v w w.mine (inr refl)
 
   module _ (reflexive : (x : T) → extends x x) where
     pub opens : (first : T) (words : List ℕ) (xs : List (Item T)) → length words ≡ 16 * length xs → ((r : ℕ) (y : Item T) → get_elem? (map some xs) r ≡ some (some y) → y ≡ item first 0)
         → Kept extends (opening words xs (setter first))
     opens first words xs wide all =
-        let chain : List T = first ∷ [] in let v : Sight T = setter first in let only : (i : ℕ) (u : Sight T) → seated (v ∷ []) i u → (i ≡ 0) × (v ≡ u) = the_only v in (
+        let chain : List T = first ∷ [] in let v : Knowledge T = setter first in let only : (i : ℕ) (u : Knowledge T) → seated (v ∷ []) i u → (i ≡ 0) × (v ≡ u) = the_only v in (
           chain,
           record {
             grows = λ i j x y le ei ej. subst (λ (z : T). extends z x) (the_only first j y ej).1 (subst (extends first) (the_only first i x ei).1 (reflexive first));
@@ -411,9 +411,9 @@ module _ {T : Type 0} (extends : T → T → Type 0) where
           → next.number ≡ last.number + 1 → extends next.value last.value
           → Allows (Kept extends) slots id me 0 (λ n. either (eqb n 2) 2 n) (appended extends (step slots 0 2 2 (some next)) me)
       appends slots id me last next on has most count number more s kept len at lt =
-          let v : Sight T = me.0 in let chain : List T = v.chain in let k : Rules extends chain s = subst (λ (z : List T). Rules extends z s) (sym ((kept.1.each id v at).all on)) kept.1 in
+          let v : Knowledge T = me.0 in let chain : List T = v.chain in let k : Rules extends chain s = subst (λ (z : List T). Rules extends z s) (sym ((kept.1.each id v at).all on)) kept.1 in
           let h = k.each id v at in let chain' : List T = chain ++ next.value ∷ [] in
-          let w : Sight T = record v { known = next ∷ v.known; most = next.number; mine = Some next; chain = chain' } in
+          let w : Knowledge T = record v { known = next ∷ v.known; most = next.number; mine = Some next; chain = chain' } in
           let stay : (x : Item T) → On chain x → On chain' x = λ x e. at_longer chain (next.value ∷ []) x.number x.value e in
           let here : On chain' next = at_last chain next.value next.number (count ∙ sym number) in
           let up : (m : ℕ) (xs : List (Item T)) → m ≤ next.number → Each (λ q. On chain q × (q.number ≤ m)) xs → Each (λ q. On chain' q × (q.number ≤ next.number)) xs =

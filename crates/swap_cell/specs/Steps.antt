@@ -6,11 +6,11 @@ use Rattle.atomic_table.specs.Table.{Me, Step, rest}
 use Rattle.atomic_table.specs.Seated.{TableId}
 use Rattle.atomic_table.specs.declared.shared.Seat.{Seat}
 use Rattle.swap_cell.specs.declared.board.Item.{Item}
-use Rattle.swap_cell.specs.declared.board.Sight.{Sight}
+use Rattle.swap_cell.specs.declared.board.Knowledge.{Knowledge}
 use Rattle.swap_cell.specs.Rule.{Each, InLine}
 
 abbrev Sat : Type 0 → Type 0
-Sat T = Me (Item T) (Sight T)
+Sat T = Me (Item T) (Knowledge T)
 
 module _ {T : Type 0} where
   -- the word of a slot goes from 0 to 1, and the seat has the slot; or it is found taken
@@ -42,38 +42,38 @@ module _ {T : Type 0} where
   lined extends st m n m' = (m' ≡ m) × InLine (λ a b. extends a.value b.value) m.0.known
 
   -- a seat that knows as much, and has the same
-  abbrev pub follower : Sight T → Sight T
+  abbrev pub follower : Knowledge T → Knowledge T
   follower v = record { known = v.known; most = v.most; mine = v.mine; found = None; slot = 0; sets = false; chain = [] }
 
   -- what a seat knows when it has learnt, with what it had
-  abbrev pub learnt : Sight T → Sight T → Sight T
+  abbrev pub learnt : Knowledge T → Knowledge T → Knowledge T
   learnt v w = record v { known = w.known ++ v.known; most = max v.most w.most }
 
   -- the same, with what the other had
-  abbrev pub renewed : Sight T → Sight T → Sight T
+  abbrev pub renewed : Knowledge T → Knowledge T → Knowledge T
   renewed v w = record (learnt v w) { mine = w.mine }
 
-  abbrev pub spent : Sight T
+  abbrev pub spent : Knowledge T
   spent = record { known = []; most = 0; mine = None; found = None; slot = 0; sets = false; chain = [] }
 
   -- the seat has handed on what it has, and knows what it knew
-  abbrev pub IsHanding : Seat (Item T) (Sight T) → Seat (Item T) (Sight T) → Type 0
+  abbrev pub IsHanding : Seat (Item T) (Knowledge T) → Seat (Item T) (Knowledge T) → Type 0
   IsHanding p q =
       (q.table_id ≡ p.table_id) × (q.me.0.slot ≡ 0) × (q.me.1 ≡ []) × (q.me.0.mine ≡ p.me.0.mine) × (q.me.0.most ≡ p.me.0.most)
       × (q.me.0.known ≡ p.me.0.known) × (q.me.0.sets ≡ p.me.0.sets) × (q.me.0.chain ≡ p.me.0.chain)
 
   -- the seat is at a cell's table, which has 16 words for each slot and at most 64 slots
-  abbrev pub IsAt : TableId → Seat (Item T) (Sight T) → Type 0
+  abbrev pub IsAt : TableId → Seat (Item T) (Knowledge T) → Type 0
   IsAt table p = (p.table_id ≡ table) × (p.table_id.words ≡ 16 * p.table_id.slots) × (p.table_id.slots ≤ 64)
 
   -- it has no slot
-  abbrev pub IsFree : Seat (Item T) (Sight T) → Type 0
+  abbrev pub IsFree : Seat (Item T) (Knowledge T) → Type 0
   IsFree p = (p.me.0.slot ≡ 0) × (p.me.1 ≡ [])
 
   -- it has taken the slot r
-  abbrev pub HasTaken : ℕ → Seat (Item T) (Sight T) → Seat (Item T) (Sight T) → Type 0
+  abbrev pub HasTaken : ℕ → Seat (Item T) (Knowledge T) → Seat (Item T) (Knowledge T) → Type 0
   HasTaken r p q = (q.table_id ≡ p.table_id) × ((y : Item T) × (q.me ≡ (record p.me.0 { found = Some y; slot = r + 1 }, (r, y) ∷ [])))
 
   -- it knows what it knew
-  abbrev pub StaysKnown : Seat (Item T) (Sight T) → Seat (Item T) (Sight T) → Type 0
+  abbrev pub StaysKnown : Seat (Item T) (Knowledge T) → Seat (Item T) (Knowledge T) → Type 0
   StaysKnown p q = (q.me.0.known ≡ p.me.0.known) × (q.me.0.most ≡ p.me.0.most)

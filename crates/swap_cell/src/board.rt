@@ -19,7 +19,7 @@ pub struct Item<T> {
 }
 
 /// What a seat knows. No value of it is made.
-pub struct Sight<T> {
+pub struct Knowledge<T> {
     /// What it looked at, learnt or set, the last first.
     pub known: LinkedList<Item<T>>,
     /// No number of these is above it.
@@ -38,7 +38,7 @@ pub struct Sight<T> {
 
 pub struct Growing;
 
-impl<T: Grows> TableRule<Item<T>, Sight<T>, Snapshot<T>> for Growing {
+impl<T: Grows> TableRule<Item<T>, Knowledge<T>, Snapshot<T>> for Growing {
     ghost use Rattle.swap_cell.specs.Rule.{Kept, setter};
 
     ghost holds = { λ _. Kept T.extends };
@@ -46,6 +46,6 @@ impl<T: Grows> TableRule<Item<T>, Sight<T>, Snapshot<T>> for Growing {
     ghost first = { λ first. setter first.value };
 }
 
-pub type Board<T> = Table<Item<T>, Sight<T>, Snapshot<T>, Growing, Global>;
+pub type Board<T> = Table<Item<T>, Knowledge<T>, Snapshot<T>, Growing, Global>;
 
-pub type Place<T> = Seat<Item<T>, Sight<T>>;
+pub type Place<T> = Seat<Item<T>, Knowledge<T>>;

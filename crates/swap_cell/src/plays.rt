@@ -1,13 +1,13 @@
 //! What each kind of step on the table of a cell tells.
 
-use crate::board::{Item, Sight};
+use crate::board::{Item, Knowledge};
 use atomic_table::{Join, Play, Split};
 use dp_base::Grows;
 
 /// A slot is taken, or found taken.
 pub struct Lock;
 
-impl<T> Play<Item<T>, Sight<T>> for Lock {
+impl<T> Play<Item<T>, Knowledge<T>> for Lock {
     ghost use Rattle.swap_cell.specs.Steps.{locked};
 
     ghost then = { locked };
@@ -16,7 +16,7 @@ impl<T> Play<Item<T>, Sight<T>> for Lock {
 /// A slot is given back, with an item that is known.
 pub struct Free;
 
-impl<T> Play<Item<T>, Sight<T>> for Free {
+impl<T> Play<Item<T>, Knowledge<T>> for Free {
     ghost use Rattle.swap_cell.specs.Steps.{freed};
 
     ghost then = { freed };
@@ -25,7 +25,7 @@ impl<T> Play<Item<T>, Sight<T>> for Free {
 /// A slot is given back, and what was found there is kept.
 pub struct Swap;
 
-impl<T> Play<Item<T>, Sight<T>> for Swap {
+impl<T> Play<Item<T>, Knowledge<T>> for Swap {
     ghost use Rattle.swap_cell.specs.Steps.{swapped};
 
     ghost then = { swapped };
@@ -34,7 +34,7 @@ impl<T> Play<Item<T>, Sight<T>> for Swap {
 /// A value is set.
 pub struct Append;
 
-impl<T: Grows> Play<Item<T>, Sight<T>> for Append {
+impl<T: Grows> Play<Item<T>, Knowledge<T>> for Append {
     ghost use Rattle.swap_cell.specs.Steps.{appended};
 
     ghost then = { appended T.extends };
@@ -43,7 +43,7 @@ impl<T: Grows> Play<Item<T>, Sight<T>> for Append {
 /// A value is looked at.
 pub struct Look;
 
-impl<T: Grows> Play<Item<T>, Sight<T>> for Look {
+impl<T: Grows> Play<Item<T>, Knowledge<T>> for Look {
     ghost use Rattle.swap_cell.specs.Steps.{looked};
 
     ghost then = { looked T.extends };
@@ -52,7 +52,7 @@ impl<T: Grows> Play<Item<T>, Sight<T>> for Look {
 /// What was learnt is of one chain with what was known.
 pub struct Line;
 
-impl<T: Grows> Play<Item<T>, Sight<T>> for Line {
+impl<T: Grows> Play<Item<T>, Knowledge<T>> for Line {
     ghost use Rattle.swap_cell.specs.Steps.{lined};
 
     ghost then = { lined T.extends };
@@ -61,7 +61,7 @@ impl<T: Grows> Play<Item<T>, Sight<T>> for Line {
 /// A seat tells another all that it knows.
 pub struct Tell;
 
-impl<T> Split<Sight<T>> for Tell {
+impl<T> Split<Knowledge<T>> for Tell {
     ghost use Rattle.swap_cell.specs.Steps.{follower};
 
     ghost left = { λ v. v };
@@ -72,7 +72,7 @@ impl<T> Split<Sight<T>> for Tell {
 /// A seat learns, and keeps the item that it has.
 pub struct Learn;
 
-impl<T> Join<Sight<T>> for Learn {
+impl<T> Join<Knowledge<T>> for Learn {
     ghost use Rattle.swap_cell.specs.Steps.{learnt, spent};
 
     ghost both = { learnt };
@@ -83,7 +83,7 @@ impl<T> Join<Sight<T>> for Learn {
 /// A seat learns, and takes over the item that the other has.
 pub struct Renew;
 
-impl<T> Join<Sight<T>> for Renew {
+impl<T> Join<Knowledge<T>> for Renew {
     ghost use Rattle.swap_cell.specs.Steps.{renewed, spent};
 
     ghost both = { renewed };

@@ -1,6 +1,6 @@
 use Rattle.std.proofs.Common.{◌≡◌, ◌∷◌, [], ◌++◌, rules}
 use Rattle.dp_base.specs.Transfer.{Writes, WritesFront}
-use Rattle.dp_session.proofs.Turns.{served_one, done, failed}
+use Rattle.dp_session.proofs.Exchanges.{served_one, done, failed}
 use Rattle.dp_session.proofs.serving.Session.serve_frame.Goals as goal
 
 pub returns-clause-ok : goal.returns-clause-ok

@@ -1,6 +1,6 @@
 use Rattle.std.proofs.Common.{◌+◌, ap, refl}
 use Rattle.dp_base.specs.Transfer.{Writes, WritesFront}
-use Rattle.dp_session.proofs.Turns.{one_more}
+use Rattle.dp_session.proofs.Exchanges.{one_more}
 use Rattle.dp_session.proofs.serving.Session.serve_one.Goals as goal
 
 pub returns-in-Ok-serve_frame-clause-ok : goal.returns-in-Ok-serve_frame-clause-ok

@@ -10,7 +10,7 @@ use Rattle.key_elements.specs.declared.element.Element.{Element}
 use Rattle.repo_keeper.specs.Store.{Store}
 use Rattle.dp_node.specs.HostState.{HostState}
 use Rattle.dp_wire.specs.Frame.{frame, IsBodyLen}
-use Rattle.dp_session.specs.declared.serving.Turn.{Turn}
+use Rattle.dp_session.specs.declared.serving.Exchange.{Exchange}
 use Rattle.dp_session.specs.declared.trace.Entry.{Entry}
 use Rattle.dp_session.specs.declared.trace.Used.{Used}
 use Rattle.dp_session.specs.declared.trace.Used.TheVariants as used
@@ -22,13 +22,13 @@ use Rattle.dp_session.specs.declared.response.Response.{Response}
 use Rattle.dp_session.specs.Needs.{need_of}
 use Rattle.dp_session.specs.Replies.{reply_to}
 use Rattle.dp_session.specs.Serving.{SessionState, state, Serves, Served, before, after, IsListOf}
-use Rattle.dp_session.specs.Turns.{turn_of, list_after, reply_bytes, IsTurn}
+use Rattle.dp_session.specs.Exchanges.{exchange_of, list_after, reply_bytes, IsExchange}
 use Rattle.dp_session.specs.Session.{outside, IsListAfter, OneServed, OneMore}
 use Rattle.dp_session.proofs.Drawing.{drew}
 
-pub answered_turn : (app bytes : List ℕ) (now need seen : ℕ) (steps : List Step) (drawn : List ℕ) (old new : SessionState) (r : Result Response Memory) → Served app (request_at bytes) now r drawn (before old) (after steps new) → need ≡ need_of (request_at bytes) → seen ≡ length old.host.own → Extends new.host.own old.host.own
-    → IsTurn app bytes now (turn_of r now need seen steps drawn) old new
-answered_turn app bytes now need seen steps drawn old new (Ok a) s n l grows = record {
+pub answered_exchange : (app bytes : List ℕ) (now need seen : ℕ) (steps : List Step) (drawn : List ℕ) (old new : SessionState) (r : Result Response Memory) → Served app (request_at bytes) now r drawn (before old) (after steps new) → need ≡ need_of (request_at bytes) → seen ≡ length old.host.own → Extends new.host.own old.host.own
+    → IsExchange app bytes now (exchange_of r now need seen steps drawn) old new
+answered_exchange app bytes now need seen steps drawn old new (Ok a) s n l grows = record {
   moment = refl;
   need = inl n;
   seen = l;
@@ -37,7 +37,7 @@ answered_turn app bytes now need seen steps drawn old new (Ok a) s n l grows = r
   reply = s.1;
   list = s.2;
 }
-answered_turn app bytes now need seen steps drawn old new (Err w) s n l grows = record {
+answered_exchange app bytes now need seen steps drawn old new (Err w) s n l grows = record {
   moment = refl;
   need = inl n;
   seen = l;
@@ -58,8 +58,8 @@ abbrev Writing : Type 1
 Writing = Option (List ℕ) → Option (List ℕ) → List ℕ → Type 0
 
 -- a turn whose entry was kept, and whose reply was written
-pub served_one : (app : List ℕ) (writes : Writing) (bytes : List ℕ) (h h' : HostState) (s s' : Store) (d d' : DrawState) (m m' : Option (List ℕ)) (moment now : ℕ) (t : Turn) (o o' : Option (List ℕ)) (es es' : List Entry) (l l' : List Element)
-    → ShowsMoment m m' moment → now ≡ min moment LAST → IsTurn app bytes now t (state h s d None) (state h' s' d' None) → es' ≡ es ++ t.entry ∷ [] → l' ≡ list_after t.list l → writes o o' (reply_bytes t.reply)
+pub served_one : (app : List ℕ) (writes : Writing) (bytes : List ℕ) (h h' : HostState) (s s' : Store) (d d' : DrawState) (m m' : Option (List ℕ)) (moment now : ℕ) (t : Exchange) (o o' : Option (List ℕ)) (es es' : List Entry) (l l' : List Element)
+    → ShowsMoment m m' moment → now ≡ min moment LAST → IsExchange app bytes now t (state h s d None) (state h' s' d' None) → es' ≡ es ++ t.entry ∷ [] → l' ≡ list_after t.list l → writes o o' (reply_bytes t.reply)
     → OneServed app writes bytes (outside None o (state h s d m) es l) (outside None o' (state h' s' d' m') es' l')
 served_one app writes bytes h h' s s' d d' m m' moment now t o o' es es' l l' shows at is added list written = record {
   entry = t.entry;

@@ -14,21 +14,21 @@ use Rattle.dp_session.specs.declared.response.Response.{Response}
 use Rattle.dp_session.specs.declared.reading.Unread.{Unread}
 use Rattle.dp_session.specs.declared.reading.Unread.TheVariants as unread
 use Rattle.dp_session.specs.declared.serving.Halt.{Halt}
-use Rattle.dp_session.specs.declared.serving.Turn.{Turn}
+use Rattle.dp_session.specs.declared.serving.Exchange.{Exchange}
 use Rattle.dp_session.specs.declared.status.Status.TheVariants as status
 use Rattle.dp_session.specs.declared.trace.Used.TheVariants as used
 use Rattle.dp_session.specs.Replies.{reply_to}
 use Rattle.dp_session.specs.Needs.{need_of}
 use Rattle.dp_session.specs.Serving.{SessionState, Serves, before, after, IsNeed, IsListOf}
 
--- the turn of a request that was answered, or found no memory
-abbrev pub turn_of : Result Response Memory → ℕ → ℕ → ℕ → List Step → List ℕ → Turn
-turn_of (Ok a) now need seen steps drawn = record {
+-- the exchange of a request that was answered, or found no memory
+abbrev pub exchange_of : Result Response Memory → ℕ → ℕ → ℕ → List Step → List ℕ → Exchange
+exchange_of (Ok a) now need seen steps drawn = record {
   entry = record { now = now; need = need; seen = seen; used = a.used; steps = steps; drawn = drawn };
   reply = Some a.reply;
   list = a.list;
 }
-turn_of (Err _) now need seen steps drawn = record {
+exchange_of (Err _) now need seen steps drawn = record {
   entry = record { now = now; need = need; seen = seen; used = used.NoMemory; steps = steps; drawn = drawn };
   reply = None;
   list = None;
@@ -39,7 +39,7 @@ abbrev pub reply_bytes : Option (Vec ℕ Global) → List ℕ
 reply_bytes (Some bytes) = bytes.items
 reply_bytes None = frame (reply_body replies.NoMemory)
 
--- a session's list, where a turn may bring a longer one
+-- a session's list, where an exchange may bring a longer one
 abbrev pub list_after : Option (List Element) → List Element → List Element
 list_after (Some longer) list = longer
 list_after None list = list
@@ -49,8 +49,8 @@ abbrev pub halt_of : Unread → Halt
 halt_of (unread.Bad why) = record { status = status.BadInput; bad = Some why }
 halt_of unread.Failed = record { status = status.ReadFault; bad = None }
 
--- the turn is that of the request of the body, at the moment
-pub record IsTurn (app body : List ℕ) (now : ℕ) (t : Turn) (old new : SessionState) : Type 0 where
+-- the exchange is that of the request of the body, at the moment
+pub record IsExchange (app body : List ℕ) (now : ℕ) (t : Exchange) (old new : SessionState) : Type 0 where
   pub moment : t.entry.now ≡ now
   pub need : IsNeed t.entry.need (need_of (request_at body)) t.entry.used t.entry.steps t.entry.drawn
   pub seen : t.entry.seen ≡ length old.host.own

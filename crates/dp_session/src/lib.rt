@@ -26,4 +26,8 @@ pub use status::Status;
 pub use trace::{Drawn, Entries, Entry, Trace, Used};
 
 #[cfg(test)]
+mod node_tests;
+#[cfg(test)]
+mod payload_tests;
+#[cfg(test)]
 mod tests;

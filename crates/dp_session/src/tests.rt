@@ -2,16 +2,15 @@ use super::*;
 use default_key::Options;
 use dp_base::{AesSize, Alg, MemClock, MemDraw, MemSink, MemSource};
 use dp_encryptor::HeaderTable;
-use dp_node::{At, HostView, NodeError, Solo};
-use dp_protector::{Opened, ProtectRefused, UnprotectRefused};
+use dp_node::{NodeError, Solo};
+use dp_protector::{ProtectRefused, UnprotectRefused};
 use key_elements::{Element, ElementList, Reason, encode, read_list};
-use purpose_chain::Chain;
 use repo_keeper::{MemKeeper, OwnRepo};
-use ring_world::{Step, StepList};
+use ring_world::Step;
 use std::alloc::Global;
 use std::test::Fail;
 
-const DAY_0: u64 = 638_000_000_000_000_000;
+pub(crate) const DAY_0: u64 = 638_000_000_000_000_000;
 
 // docs/FORMATS.md, "Frames and requests": a key from day 0 to day 90 under code 3.
 const ROLL: &str = "00000012 02 08DAA19EA6B30000 08DAE8578FE08000 03";
@@ -20,17 +19,17 @@ const ROLLED: &str = "00000019 00 0000000000000001 00000000000000408000000000000
 
 // What stands around a session: the calls of each part that fail, and how many bytes a call moves.
 #[derive(Clone, Copy)]
-struct Outside<'a> {
-    list: usize,
-    piece: usize,
-    reads: &'a [u64],
-    writes: &'a [u64],
-    keeps: &'a [u64],
-    draws: &'a [u64],
-    app: &'a str,
+pub(crate) struct Outside<'a> {
+    pub(crate) list: usize,
+    pub(crate) piece: usize,
+    pub(crate) reads: &'a [u64],
+    pub(crate) writes: &'a [u64],
+    pub(crate) keeps: &'a [u64],
+    pub(crate) draws: &'a [u64],
+    pub(crate) app: &'a str,
 }
 
-const WELL: Outside<'static> = Outside {
+pub(crate) const WELL: Outside<'static> = Outside {
     list: 0,
     piece: 4096,
     reads: &[],
@@ -49,7 +48,7 @@ fn digit(byte: u8) -> Option<u8> {
 }
 
 // The bytes of a hexadecimal text; other characters are passed over.
-fn bytes_of(alloc: Global, text: &str) -> Result<Vec<u8>, Fail> {
+pub(crate) fn bytes_of(alloc: Global, text: &str) -> Result<Vec<u8>, Fail> {
     let mut bytes = Vec::new(alloc);
     let mut first = None;
     for byte in text.as_bytes() {
@@ -82,12 +81,16 @@ fn no_auto() -> Result<Options, Fail> {
     Options::new(90, false, Alg::Cbc256(AesSize::A256)).map_err(|_| "options".into())
 }
 
-fn repo_of(alloc: Global, list: ElementList, fails: &[u64]) -> Result<OwnRepo<MemKeeper>, Fail> {
+pub(crate) fn repo_of(
+    alloc: Global,
+    list: ElementList,
+    fails: &[u64],
+) -> Result<OwnRepo<MemKeeper>, Fail> {
     let keeper = MemKeeper::new(list, fails.to_vec(alloc)?);
     Ok(OwnRepo::new(alloc, keeper))
 }
 
-fn zeros(alloc: Global, fails: &[u64]) -> Result<MemDraw, Fail> {
+pub(crate) fn zeros(alloc: Global, fails: &[u64]) -> Result<MemDraw, Fail> {
     let bytes = Vec::from_elem(alloc, 0, 1_024)?;
     Ok(MemDraw::new(bytes, fails.to_vec(alloc)?))
 }
@@ -138,7 +141,7 @@ fn session(
 }
 
 // How a session ends, and whether it wrote what was wanted.
-fn told(
+pub(crate) fn told(
     alloc: Global,
     input: Vec<u8>,
     wanted: &[u8],
@@ -360,450 +363,6 @@ fn statuses(rt: HostRuntime) {
         assert_eq!(rt; status.number(), number);
         assert_eq!(rt; status.message(), message, "{number}");
     }
-}
-
-// A session over an empty repository: each request, and the reply to it.
-struct Row<'a> {
-    name: &'a str,
-    app: &'a str,
-    steps: &'a [(&'a str, &'a str)],
-}
-
-// Worked out by Python's `cryptography` and `hmac`, apart from this repository
-// (tests/vectors/payloads.py), by draws of zeros at day 0.
-const ROWS: &[Row<'static>] = &[
-    Row {
-        name: "bytes under code 3",
-        app: "",
-        steps: &[
-            (
-                "000000120208DAA19EA6B3000008DAE8578FE0800003",
-                "0000001900000000000000000100000000000000408000000000000000",
-            ),
-            (
-                "0000000F050000000000000000000000010161",
-                "0000006D00000000000000000109F0C9F00000000000000040800000000000000000000000000000\
-                    00000000000000000000000000000000000000000000000000D0AD7DFF99C4C6E490DB8E6FFC9C8A\
-                    AE935588C75ABAA2083558145A94543DB3CCFED3D00F1054C861780AFE0B2CFB66",
-            ),
-            (
-                "000000740600000000000000000000000001016109F0C9F000000000000000408000000000000000\
-                    0000000000000000000000000000000000000000000000000000000000000000D0AD7DFF99C4C6E4\
-                    90DB8E6FFC9C8AAE935588C75ABAA2083558145A94543DB3CCFED3D00F1054C861780AFE0B2CFB66",
-                "0000000A00000000000000000100",
-            ),
-        ],
-    },
-    Row {
-        name: "bytes under code 9",
-        app: "",
-        steps: &[
-            (
-                "000000120208DAA19EA6B3000008DAE8578FE0800009",
-                "0000001900000000000000000100000000000000408000000000000000",
-            ),
-            (
-                "00000015050000000000000000000000010161312062797465",
-                "0000004F00000000000000000109F0C9F00000000000000040800000000000000000000000000000\
-                    00000000000000000000000000000000000000000022E9E10F5FE3A949F33AD3808660B96491619D\
-                    86B847",
-            ),
-            (
-                "000000560600000000000000000000000001016109F0C9F000000000000000408000000000000000\
-                    0000000000000000000000000000000000000000000000000000000022E9E10F5FE3A949F33AD380\
-                    8660B96491619D86B847",
-                "0000001000000000000000000100312062797465",
-            ),
-        ],
-    },
-    Row {
-        name: "refused payloads",
-        app: "",
-        steps: &[
-            (
-                "000000120208DAA19EA6B3000008DAE8578FE0800003",
-                "0000001900000000000000000100000000000000408000000000000000",
-            ),
-            (
-                "000000230600000000000000000000000001016109F0C9F0000000000000004080000000000000",
-                "000000090A0000000000000001",
-            ),
-            (
-                "000000740600000000000000000000000001016109F0C9F100000000000000408000000000000000\
-                    0000000000000000000000000000000000000000000000000000000000000000D0AD7DFF99C4C6E4\
-                    90DB8E6FFC9C8AAE935588C75ABAA2083558145A94543DB3CCFED3D00F1054C861780AFE0B2CFB66",
-                "000000090B0000000000000001",
-            ),
-            (
-                "000000740600000000000000000000000001016109F0C9F000000000000000408000000000000000\
-                    0000000000000000000000000000000000000000000000000000000000000000D0AD7DFF99C4C6E4\
-                    90DB8E6FFC9C8AAE935588C75ABAA2083558145A94543DB3CCFED3D00F1054C861780AFE0B2CFB67",
-                "000000090F0000000000000001",
-            ),
-            (
-                "000000740600000000000000000000000001016109F0C9F0FF000000000000408000000000000000\
-                    0000000000000000000000000000000000000000000000000000000000000000D0AD7DFF99C4C6E4\
-                    90DB8E6FFC9C8AAE935588C75ABAA2083558145A94543DB3CCFED3D00F1054C861780AFE0B2CFB66",
-                "000000190C0000000000000001FF000000000000408000000000000000",
-            ),
-            (
-                "000000740600000000000000000000000001016209F0C9F000000000000000408000000000000000\
-                    0000000000000000000000000000000000000000000000000000000000000000D0AD7DFF99C4C6E4\
-                    90DB8E6FFC9C8AAE935588C75ABAA2083558145A94543DB3CCFED3D00F1054C861780AFE0B2CFB66",
-                "000000090F0000000000000001",
-            ),
-        ],
-    },
-    Row {
-        name: "texts",
-        app: "",
-        steps: &[
-            (
-                "000000120208DAA19EA6B3000008DAE8578FE0800003",
-                "0000001900000000000000000100000000000000408000000000000000",
-            ),
-            (
-                "000000180700000000000000000000000201610262636E61C3AF7665",
-                "0000008F0000000000000000014366444A3841414141414141414142416741414141414141414141\
-                    41414141414141414141414141414141414141414141414141414141414141414141414141414141\
-                    41414B39435350446F65387963794249696D456154425865504A66486F6658314B5549696E487A50\
-                    4276674574686558783670686579722D5379547053687565574867",
-            ),
-            (
-                "00000099080000000000000000000000000201610262634366444A38414141414141414141424167\
-                    41414141414141414141414141414141414141414141414141414141414141414141414141414141\
-                    4141414141414141414141414B39435350446F65387963794249696D456154425865504A66486F66\
-                    58314B5549696E487A504276674574686558783670686579722D5379547053687565574867",
-                "00000010000000000000000001006E61C3AF7665",
-            ),
-            (
-                "000000110800000000000000000000000001016121",
-                "00000009140000000000000001",
-            ),
-            (
-                "00000097080000000000000000000000000101614366444A38414141414141414141424167414141\
-                    41414141414141414141414141414141414141414141414141414141414141414141414141414141\
-                    4141414141414141414B39435350446F65387963794249696D456154425865504A66486F6658314B\
-                    5549696E487A504276674574686558783670686579722D53795470536875655748673D",
-                "00000009140000000000000001",
-            ),
-            (
-                "00000096080000000000000000000000000101614366444A38414141414141414141424167414141\
-                    41414141414141414141414141414141414141414141414141414141414141414141414141414141\
-                    41414141414141414146336171714A72726D4E4235697934386478754A2D5265655968585F73484B\
-                    6236675F485367744531335A617657376C58594F4F6D36705A35585668346A696B67",
-                "00000009150000000000000001",
-            ),
-            (
-                "0000002A080000000000000000000000000101614366444A38414141414141414141424167414141\
-                    414141414141",
-                "000000090A0000000000000001",
-            ),
-        ],
-    },
-    Row {
-        name: "payloads that expire",
-        app: "",
-        steps: &[
-            (
-                "000000120208DAA19EA6B3000008DAE8578FE0800003",
-                "0000001900000000000000000100000000000000408000000000000000",
-            ),
-            (
-                "0000001809000000000000000000000001016108DAA19EA6B3000078",
-                "0000006D00000000000000000109F0C9F00000000000000040800000000000000000000000000000\
-                    000000000000000000000000000000000000000000000000002B19EF18F6EB0BAF8E00D922249CCC\
-                    08A0DACB7FC8B7BC714B59E987401AEE707476C23D66BAB07681FB165C3B2F6807",
-            ),
-            (
-                "000000740A00000000000000000000000001016109F0C9F000000000000000408000000000000000\
-                    00000000000000000000000000000000000000000000000000000000000000002B19EF18F6EB0BAF\
-                    8E00D922249CCC08A0DACB7FC8B7BC714B59E987401AEE707476C23D66BAB07681FB165C3B2F6807",
-                "000000130000000000000000010008DAA19EA6B3000078",
-            ),
-            (
-                "000000740A00000000000000000000000001016109F0C9F000000000000000408000000000000000\
-                    0000000000000000000000000000000000000000000000000000000000000000C606746573DD63A1\
-                    F40C9DE18790BDE3E410E6BD0AC579A8D4E5E08C725965B367E727A251455888C281731708E59005",
-                "0000001111000000000000000108DAA19EA6B2FFFF",
-            ),
-            (
-                "000000740A00000000000000000000000001016109F0C9F000000000000000408000000000000000\
-                    00000000000000000000000000000000000000000000000000000000000000005E81ABF2C9C1E3B4\
-                    C0D886C8D22D54DF47D3208B8732C5813F99BC386655E2AD8870ECDBF8C179A2C34FDF3B31392408",
-                "00000009100000000000000001",
-            ),
-            (
-                "000000740A00000000000000000000000001016109F0C9F000000000000000408000000000000000\
-                    000000000000000000000000000000000000000000000000000000000000000078B87F83A9FA072B\
-                    29CDC6ECA4F42331EDEC37DF6EBFE8C44D3F750D9113041292E8067FB8922C36FD01CCD43CE53057",
-                "00000009100000000000000001",
-            ),
-            (
-                "000000170900000000000000000000000101612BCA2875F4374000",
-                "0000000109",
-            ),
-        ],
-    },
-    Row {
-        name: "a revoked key",
-        app: "",
-        steps: &[
-            (
-                "000000120208DAA19EA6B3000008DAE8578FE0800003",
-                "0000001900000000000000000100000000000000408000000000000000",
-            ),
-            (
-                "00000012030000000000000040800000000000000000",
-                "00000009000000000000000002",
-            ),
-            (
-                "000000740600000000000000000000000001016109F0C9F000000000000000408000000000000000\
-                    0000000000000000000000000000000000000000000000000000000000000000D0AD7DFF99C4C6E4\
-                    90DB8E6FFC9C8AAE935588C75ABAA2083558145A94543DB3CCFED3D00F1054C861780AFE0B2CFB66",
-                "000000190D000000000000000200000000000000408000000000000000",
-            ),
-            (
-                "000000740600000000000000020100000001016109F0C9F000000000000000408000000000000000\
-                    0000000000000000000000000000000000000000000000000000000000000000D0AD7DFF99C4C6E4\
-                    90DB8E6FFC9C8AAE935588C75ABAA2083558145A94543DB3CCFED3D00F1054C861780AFE0B2CFB66",
-                "0000000A00000000000000000203",
-            ),
-            (
-                "0000000F050000000000000000000000010161",
-                "00000009120000000000000002",
-            ),
-            (
-                "000000740600000000000000030000000001016109F0C9F000000000000000408000000000000000\
-                    0000000000000000000000000000000000000000000000000000000000000000D0AD7DFF99C4C6E4\
-                    90DB8E6FFC9C8AAE935588C75ABAA2083558145A94543DB3CCFED3D00F1054C861780AFE0B2CFB66",
-                "000000110600000000000000020000000000000003",
-            ),
-        ],
-    },
-    Row {
-        name: "an application",
-        app: "shop",
-        steps: &[
-            (
-                "000000120208DAA19EA6B3000008DAE8578FE0800003",
-                "0000001900000000000000000100000000000000408000000000000000",
-            ),
-            (
-                "0000000F050000000000000000000000010161",
-                "0000006D00000000000000000109F0C9F00000000000000040800000000000000000000000000000\
-                    00000000000000000000000000000000000000000000000000E0611EF7161569BFF064D9066639F4\
-                    6B79C9C79FAC1F903D7E3B2348FD864CF9EDA23E66B405A3331FC0E007E0037D55",
-            ),
-            (
-                "000000740600000000000000000000000001016109F0C9F000000000000000408000000000000000\
-                    0000000000000000000000000000000000000000000000000000000000000000D0AD7DFF99C4C6E4\
-                    90DB8E6FFC9C8AAE935588C75ABAA2083558145A94543DB3CCFED3D00F1054C861780AFE0B2CFB66",
-                "000000090F0000000000000001",
-            ),
-        ],
-    },
-    Row {
-        name: "chains",
-        app: "",
-        steps: &[
-            ("0000000D05000000000000000000000000", "000000050100000009"),
-            ("0000000D0500000000000000000000003D", "000000050100000009"),
-            (
-                "0000001205000000000000000000000002016102FFFF",
-                "00000005010000000F",
-            ),
-            ("0000000A06000000000000000002", "000000050100000009"),
-        ],
-    },
-];
-
-// The requests of a row, and the replies to them.
-fn sides(alloc: Global, row: &Row<'_>) -> Result<(Vec<u8>, Vec<u8>), Fail> {
-    let mut input = Vec::new(alloc);
-    let mut output = Vec::new(alloc);
-    for (request, reply) in row.steps {
-        input.extend_from_slice(bytes_of(alloc, request)?.as_slice())?;
-        output.extend_from_slice(bytes_of(alloc, reply)?.as_slice())?;
-    }
-    Ok((input, output))
-}
-
-fn told_row(
-    alloc: Global,
-    row: &Row<'_>,
-    outside: &Outside<'_>,
-) -> Result<(Status, Option<BadPlace>, bool), Fail> {
-    let (input, wanted) = sides(alloc, row)?;
-    told(alloc, input, wanted.as_slice(), outside)
-}
-
-// docs/FORMATS.md, "Payload" and the parts behind it, "Requests" and "Replies".
-#[test]
-fn protecting(rt: HostRuntime) -> Result<(), Fail> {
-    for row in ROWS {
-        let outside = Outside {
-            app: row.app,
-            ..WELL
-        };
-        assert_eq!(rt;
-            told_row(rt.alloc(), row, &outside)?,
-            (Status::Done, None, true),
-            "{}",
-            row.name
-        );
-    }
-    Ok(())
-}
-
-// A node that is opened at day 0 over an empty repository, and what its calls are lent. Its draws are
-// zeros.
-#[derive(Drop)]
-struct Node {
-    alloc: Global,
-    repo: OwnRepo<MemKeeper>,
-    draw: MemDraw,
-    solo: Solo,
-    headers: HeaderTable,
-}
-
-impl Node {
-    fn open(alloc: Global, auto: bool) -> Result<Node, Fail> {
-        let options = Options::new(90, auto, Alg::Cbc256(AesSize::A256)).map_err(|_| "options")?;
-        let mut repo = repo_of(alloc, ElementList::empty(), &[])?;
-        let mut draw = zeros(alloc, &[])?;
-        let solo = Solo::open(alloc, &mut repo, &mut draw, DAY_0, options)?;
-        Ok(Node {
-            alloc,
-            repo,
-            draw,
-            solo,
-            headers: HeaderTable::new(alloc),
-        })
-    }
-
-    // The payload of no bytes at day 0.
-    fn seal(&mut self, purpose: &str) -> Result<Result<Answered<Vec<u8>>, CallRefused>, Fail> {
-        if self.solo.held() {
-            return Err("no call".into());
-        }
-        let chain = Chain::new(self.alloc, purpose)?;
-        let mut steps = StepList::with_room(self.alloc)?;
-        let at = At {
-            now: DAY_0,
-            need: 0,
-        };
-        Ok(protect(
-            &mut (),
-            self.alloc,
-            &mut self.solo,
-            &mut self.repo,
-            &mut self.draw,
-            &self.headers,
-            at,
-            &chain,
-            &[],
-            &mut steps,
-        ))
-    }
-
-    // What the payload opens to at day 0 by a ring of at least so many elements.
-    fn open_by(
-        &mut self,
-        need: u64,
-        purpose: &str,
-        payload: &[u8],
-    ) -> Result<Result<Answered<Opened>, CallRefused>, Fail> {
-        if self.solo.held() || payload.len() > 1_024 {
-            return Err("no call".into());
-        }
-        let chain = Chain::new(self.alloc, purpose)?;
-        let mut steps = StepList::with_room(self.alloc)?;
-        let at = At { now: DAY_0, need };
-        Ok(unprotect(
-            &mut (),
-            self.alloc,
-            &mut self.solo,
-            &mut self.repo,
-            &mut self.draw,
-            &self.headers,
-            at,
-            &chain,
-            payload,
-            false,
-            &mut steps,
-        ))
-    }
-}
-
-// The reply of the first of ROWS without its frame, status and number of elements: the payload of no
-// bytes under code 3.
-const EMPTY_SEALED: &str = "09F0C9F000000000000000408000000000000000\
-    0000000000000000000000000000000000000000000000000000000000000000D0AD7DFF99C4C6E4\
-    90DB8E6FFC9C8AAE935588C75ABAA2083558145A94543DB3CCFED3D00F1054C861780AFE0B2CFB66";
-
-// Whether the answer is by the ring of one key, and holds these bytes.
-fn is_sealed(answered: &Answered<Vec<u8>>, sealed: &[u8]) -> bool {
-    (answered.front, answered.made_at) == (1, DAY_0) && answered.value.as_slice() == sealed
-}
-
-// Whether the answer is by the ring of one key, and tells no bytes under a key that protects.
-fn is_opened(answered: &Answered<Opened>) -> bool {
-    let opened = &answered.value;
-    (answered.front, answered.made_at) == (1, DAY_0)
-        && opened.plain.is_empty()
-        && !opened.revoked
-        && !opened.default_changed
-}
-
-// Calls at a node, each with an answer.
-#[test]
-fn node_answers(rt: HostRuntime) -> Result<(), Fail> {
-    let mut node = Node::open(rt.alloc(), true)?;
-    let sealed = bytes_of(rt.alloc(), EMPTY_SEALED)?;
-    assert!(rt; is_sealed(&node.seal("a")??, sealed.as_slice()));
-    assert!(rt; is_opened(&node.open_by(1, "a", sealed.as_slice())??));
-    Ok(())
-}
-
-// Calls at a node, each with a refusal.
-#[test]
-fn node_refusals(rt: HostRuntime) -> Result<(), Fail> {
-    let mut node = Node::open(rt.alloc(), true)?;
-    let sealed = bytes_of(rt.alloc(), EMPTY_SEALED)?;
-    assert!(rt; node.seal("a")?.is_ok());
-    assert!(rt;
-        matches!(
-            node.open_by(2, "a", sealed.as_slice())?,
-            Err(CallRefused::Node(NodeError::Behind { have: 1, need: 2 }))
-        )
-    );
-    assert!(rt;
-        matches!(
-            node.open_by(0, "b", sealed.as_slice())?,
-            Err(CallRefused::Unprotect {
-                front: 1,
-                why: UnprotectRefused::Tampered
-            })
-        )
-    );
-    Ok(())
-}
-
-// A node that makes no keys has none to protect with.
-#[test]
-fn node_without_a_key(rt: HostRuntime) -> Result<(), Fail> {
-    let mut node = Node::open(rt.alloc(), false)?;
-    assert!(rt;
-        matches!(
-            node.seal("a")?,
-            Err(CallRefused::Protect {
-                front: 0,
-                why: ProtectRefused::NoDefaultKey
-            })
-        )
-    );
-    Ok(())
 }
 
 // The longest name of an application, and one that is longer.

@@ -19,7 +19,7 @@ use Rattle.key_elements.specs.declared.element.KeyRecord.{KeyRecord}
 use Rattle.key_ring.specs.Keys.{keys_of, ring_key, ring_keys, fact_of, facts, is_revoked, is_usable}
 use Rattle.key_ring.specs.Ring.{chosen, default_key, fallback_key, policy_at, preferred_key}
 use Rattle.key_ring.specs.declared.ring.KeyState.{KeyState}
-use Rattle.key_ring.specs.State.{State, lookup_of, seen, state}
+use Rattle.key_ring.specs.State.{State, lookup_of, key_state, state}
 use Rattle.key_ring.proofs.KeysOf.{HaveIds, keys_of-ids}
 use Rattle.dp_protector.specs.Algorithms.{alg_of}
 use Rattle.dp_protector.proofs.Codes.{alg_of-code}
@@ -213,9 +213,9 @@ default_key-none_found es t id is none =
     not_some e = absurd cc
 
 pub default_key-some_found : (es : List Element) (t : ℕ) (id : KeyId) (s : KeyState) → Some id ≡ option_map (λ k. k.id) (default_key es t)
-    → Some (seen s) ≡ lookup_of es t id.0 → Some s.key.now ≡ default_key es t
+    → Some (key_state s) ≡ lookup_of es t id.0 → Some s.key.now ≡ default_key es t
 default_key-some_found es t id s is looked =
-    let found = default_key-found es t id (Some (seen s)) is looked in
+    let found = default_key-found es t id (Some (key_state s)) is looked in
     ap (option_map (λ (state : State). state.key)) found.state_is ∙ sym found.is
 
 pub default_key-alg : (es : List Element) (t : ℕ) (k : KeyRecord) → default_key es t ≡ Some k → alg_of k.alg ≡ None → ⊥

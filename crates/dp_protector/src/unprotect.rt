@@ -1,7 +1,7 @@
 //! Unprotecting by a ring.
 
 ghost use Rattle.std.specs.Prelude.{◌≡◌, ◌⊎◌, ◌<◌, ◌^◌, ◌&&◌, not, length, None, Some, MatchResult};
-ghost use Rattle.key_ring.specs.State.{seen};
+ghost use Rattle.key_ring.specs.State.{key_state};
 ghost use Rattle.dp_protector.specs.Opening.{IsDueAnswer, open_body, opened, opened_under, opening};
 ghost use Rattle.dp_protector.specs.declared.refused.UnprotectRefused.TheVariants as refused;
 
@@ -57,7 +57,7 @@ fn open_under(
 ) -> Result<Opened, UnprotectRefused>
     requires { length body.now < 2 ^ 32 }
     ensures { IsDueAnswer opening result
-        (opened_under (Some (seen state.now)) allow_revoked id chain.now body.now) }
+        (opened_under (Some (key_state state.now)) allow_revoked id chain.now body.now) }
 {
     if is_barred(state.revoked, allow_revoked) {
         return Err(UnprotectRefused::KeyRevoked { id });

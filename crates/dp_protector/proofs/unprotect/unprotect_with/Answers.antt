@@ -1,6 +1,6 @@
 use Rattle.std.proofs.Common.{drop, Ok, Err, ap, subst, inl, ◌∙◌}
 use Rattle.std.proofs.lemmas.Result.{err_from_is_err_and}
-use Rattle.key_ring.specs.State.{seen}
+use Rattle.key_ring.specs.State.{key_state}
 use Rattle.dp_protector.specs.Opening.{IsDueAnswer, opening}
 use Rattle.dp_protector.proofs.Heads.{head-told, head-missing, head-held, id-is}
 use Rattle.dp_protector.proofs.unprotect.unprotect_with.Goals as goal
@@ -13,7 +13,7 @@ returns-in_err-view c =
 pub returns-in-Some : goal.returns-in-Some
 returns-in-Some c =
     subst (IsDueAnswer opening c.open_under.result)
-    (head-held c.args.ring.now c.args.chain.now c.args.payload.now c.args.allow_revoked c.key_id-id.result (seen c.in-Some.state) c.rest.result.now
+    (head-held c.args.ring.now c.args.chain.now c.args.payload.now c.args.allow_revoked c.key_id-id.result (key_state c.in-Some.state) c.rest.result.now
     (head-told c.args.ring.now c.args.chain.now c.args.payload.now c.args.allow_revoked (Ok c.in_ok-view.view) c.in_ok-view.ensures.bad_header c.in_ok-view.ensures.bad_version)
     (id-is c.key_id-id.result c.in_ok-view.view c.args.payload.now c.key_id-id.ensures.value c.in_ok-view.ensures.ok)
     c.in-Some.ensures (c.rest.ensures ∙ ap (drop 20) c.in_ok-view.ensures.ok))

@@ -67,15 +67,19 @@ at_more P (y ∷ ys) x all last (suc k) d h = at_more (λ i. P (suc i)) ys x (λ
 pub all_more : {A : Type 0} (P : A → Type 0) (xs : List A) (x : A) → All P xs → P x → All P (xs ++ x ∷ [])
 all_more P = at_more (λ _. P)
 
--- one more viewer, with the next slot
-pub slots_more : {T : Type 0} (xs : List (Viewer T)) (x : Viewer T) → HaveSlots xs → viewer_slot x ≡ length xs → HaveSlots (xs ++ x ∷ [])
-slots_more xs x all last = at_more (λ i v. viewer_slot v ≡ i) xs x all last
+-- one more viewer, with the next two slots
+pub slots_more : {T : Type 0} (xs : List (Viewer T)) (x : Viewer T) → HaveSlots xs → viewer_slot x ≡ 2 * length xs → HaveSlots (xs ++ x ∷ [])
+slots_more xs x all last = at_more (λ i v. viewer_slot v ≡ 2 * i) xs x all last
 
 pub some_word : (z z' : TableId) → z ≡ z' → z.words ≡ 16 * z.slots → 0 < z.slots → 0 < z'.words
 some_word z z' e wide least = subst (λ (q : TableId). 0 < q.words) e (omega arith)
 
 pub word_within : (z z' : TableId) (i : ℕ) → z ≡ z' → z.words ≡ 16 * z.slots → i < z.slots → 16 * i < z'.words
 word_within z z' i e wide within = subst (λ (q : TableId). 16 * i < q.words) e (omega arith)
+
+-- the flag beside a slot is a word of the table
+pub flag_within : (z z' : TableId) (i : ℕ) → z ≡ z' → z.words ≡ 16 * z.slots → i < z.slots → 16 * i + 1 < z'.words
+flag_within z z' i e wide within = subst (λ (q : TableId). 16 * i + 1 < q.words) e (omega arith)
 
 -- what stands in the slots of a new table
 pub map_some_at : {A : Type 0} (xs : List A) (r : ℕ) (y : A) → get_elem? (map some xs) r ≡ some (some y) → (r < length xs) × (get_or xs r y ≡ y)
@@ -217,6 +221,28 @@ module _ {T : Type 0} (extends : T → T → Type 0) where
         ((λ _ r' e. let q : r ≡ r' = omega arith in subst (λ (z : ℕ). (x : Item T) × ◌≡◌ {A = Sat} (w, (r, y) ∷ me.1) (record v { found = Some x; slot = z + 1 }, (z, x) ∷ me.1)) q (y, refl)), (λ no. absurd (no free))),
       ))
       (λ busy. (v, keeps, tt, idles s chain (16 * r) n id v k at refl, ((λ free. absurd (busy free)), (λ _. refl))))
+
+  -- a word beside those of the slots is written or read
+  pub flags : (slots id r : ℕ) (f : ℕ → ℕ) (me : Sat) → r < slots → Allows (Kept extends) slots id me (16 * r + 1) f (λ _ m'. m' ≡ me)
+  flags slots id r f me within s kept len at lt =
+      let v : Knowledge T = me.0 in let chain = kept.0 in let k = kept.1 in let z : ℕ = f (get_or s.words (16 * r + 1) 0) in let words' : List ℕ = set s.words (16 * r + 1) z in
+      let else' : (r' : ℕ) → get_or words' (16 * r') 0 ≡ get_or s.words (16 * r') 0 = λ r'. get_or-set_other s.words (16 * r + 1) (16 * r') z 0 (λ e. omega arith) in
+      let longs = length-set s.words (16 * r + 1) z in let wide = k.wide in
+      let fits : (i : ℕ) (u : Knowledge T) → seated s.views i u → Fits chain words' u = λ i u e. let g = k.each i u e in
+      record { knows = g.knows; mine = g.mine; found = g.found; has = λ r' e' q. g.has r' e' (sym (else' r') ∙ q); all = g.all } in (
+        v,
+        keeps,
+        tt,
+        (
+          chain,
+          moved chain chain s id v v words' s.homes k at k.grows (omega arith)
+              (λ r' lt' q. k.home r' lt' (sym (else' r') ∙ q))
+              (fits id v at) (λ i u ne e. fits i u e)
+              (λ i u ne e pos same. ne (sym (k.own id i v u at e pos same)))
+              (λ on. on),
+        ),
+        refl,
+      )
 
   -- the slot r is given back with y, which the seat found there or has
   puts : (slots id r : ℕ) (v : Knowledge T) (y : Item T) (mine : Option (Item T)) (me : Sat) → me ≡ (v, (r, y) ∷ []) → v.slot ≡ r + 1 → r < slots

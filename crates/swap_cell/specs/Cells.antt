@@ -1,5 +1,5 @@
 -- What clauses read of the ends of a cell.
-use Rattle.std.specs.Prelude.{◌≡◌, ℕ, ◌<◌, List, ◌∷◌, ◌++◌, length, map, slice_index_or}
+use Rattle.std.specs.Prelude.{◌≡◌, ℕ, ◌*◌, ◌<◌, List, ◌∷◌, ◌++◌, length, map, slice_index_or}
 use Rattle.atomic_table.specs.Seated.{TableId}
 use Rattle.swap_cell.specs.declared.board.Item.{Item}
 use Rattle.swap_cell.specs.declared.handles.Setter.{Setter}
@@ -18,7 +18,7 @@ module _ {T : Type 0} where
   abbrev pub viewer_cell : Viewer T → TableId
   viewer_cell v = v.place.table_id
 
-  -- the number of a viewer's slot
+  -- the number of the first of a viewer's two slots
   abbrev pub viewer_slot : Viewer T → ℕ
   viewer_slot v = v.index
 
@@ -53,9 +53,9 @@ module _ {T : Type 0} where
   abbrev pub Follows : Setter T → Viewer T → Type 0
   Follows s v = (viewer_cell v ≡ setter_cell s) × (known v ≡ set_before s)
 
-  -- each viewer has a slot of its own: the first the slot 0, and so on
+  -- each viewer has two slots of its own: the first the slots 0 and 1, and so on
   abbrev pub HaveSlots : List (Viewer T) → Type 0
-  HaveSlots viewers = (i : ℕ) (d : Viewer T) → i < length viewers → viewer_slot (slice_index_or viewers i d) ≡ i
+  HaveSlots viewers = (i : ℕ) (d : Viewer T) → i < length viewers → viewer_slot (slice_index_or viewers i d) ≡ 2 * i
 
   -- the value extends all that the viewer knew, and is known now
   abbrev pub HasLooked : (T → T → Type 0) → Viewer T → Viewer T → T → Type 0

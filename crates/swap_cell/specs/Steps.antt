@@ -27,6 +27,10 @@ module _ {T : Type 0} where
   abbrev pub swapped : Step (Item T) → Sat T → ℕ → Sat T → Type 0
   swapped st m n m' = m' ≡ (record m.0 { slot = 0; mine = m.0.found }, rest m.1)
 
+  -- nothing is told
+  abbrev pub flagged : Step (Item T) → Sat T → ℕ → Sat T → Type 0
+  flagged st m n m' = m' ≡ m
+
   -- the setter sets the value that the step announces, which extends all that it knows
   abbrev pub appended : (T → T → Type 0) → Step (Item T) → Sat T → ℕ → Sat T → Type 0
   appended extends st m n m' = (x : Item T) → st.said ≡ some x
@@ -62,9 +66,9 @@ module _ {T : Type 0} where
       (q.table_id ≡ p.table_id) × (q.me.0.slot ≡ 0) × (q.me.1 ≡ []) × (q.me.0.mine ≡ p.me.0.mine) × (q.me.0.most ≡ p.me.0.most)
       × (q.me.0.known ≡ p.me.0.known) × (q.me.0.sets ≡ p.me.0.sets) × (q.me.0.chain ≡ p.me.0.chain)
 
-  -- the seat is at a cell's table, which has 16 words for each slot and at most 64 slots
+  -- the seat is at a cell's table, which has 16 words for each slot and at most 128 slots
   abbrev pub IsAt : TableId → Seat (Item T) (Knowledge T) → Type 0
-  IsAt table p = (p.table_id ≡ table) × (p.table_id.words ≡ 16 * p.table_id.slots) × (p.table_id.slots ≤ 64)
+  IsAt table p = (p.table_id ≡ table) × (p.table_id.words ≡ 16 * p.table_id.slots) × (p.table_id.slots ≤ 128)
 
   -- it has no slot
   abbrev pub IsFree : Seat (Item T) (Knowledge T) → Type 0
@@ -73,6 +77,10 @@ module _ {T : Type 0} where
   -- it has taken the slot r
   abbrev pub HasTaken : ℕ → Seat (Item T) (Knowledge T) → Seat (Item T) (Knowledge T) → Type 0
   HasTaken r p q = (q.table_id ≡ p.table_id) × ((y : Item T) × (q.me ≡ (record p.me.0 { found = Some y; slot = r + 1 }, (r, y) ∷ [])))
+
+  -- it is at its table, and knows and has what it did
+  abbrev pub StaysSeated : Seat (Item T) (Knowledge T) → Seat (Item T) (Knowledge T) → Type 0
+  StaysSeated p q = (q.table_id ≡ p.table_id) × (q.me ≡ p.me)
 
   -- it knows what it knew
   abbrev pub StaysKnown : Seat (Item T) (Knowledge T) → Seat (Item T) (Knowledge T) → Type 0

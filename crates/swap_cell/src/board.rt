@@ -1,6 +1,7 @@
-//! The table under a cell. Viewer r has slot r, which holds a share of a value that was set, and
-//! word 16 r, which is 1 while the setter or the viewer has the slot, so that the words of two
-//! viewers lie 128 bytes apart.
+//! The table under a cell. A viewer has two slots, of which each holds a share of a value that was
+//! set. Word 16 r is 1 while the setter or the viewer has the slot r, so that the words of two
+//! viewers lie 128 bytes apart. The word behind that of a viewer's first slot is its flag: 1 while a
+//! look that found the first slot taken tries both again.
 
 use atomic_table::{Seat, Table, TableRule};
 use dp_base::Grows;
@@ -8,8 +9,11 @@ use std::alloc::Global;
 use std::collections::LinkedList;
 use std::snapshot::Snapshot;
 
-/// The words from one viewer's to the next one's.
+/// The words from one slot's to the next one's.
 pub const STRIDE: usize = 16;
+
+/// The slots of a viewer.
+pub const SLOTS: usize = 2;
 
 /// A value with its place among those that were set, from 0.
 #[derive(Drop)]

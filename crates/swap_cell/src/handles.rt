@@ -17,7 +17,7 @@ pub struct Setter<T: Grows + Drop> {
     pub(crate) room: Vec<Item<T>>,
     ghost seated: { place.table_id ≡ (arc_value board).shared.table_id },
     ghost sized: { (place.table_id.words ≡ 16 * place.table_id.slots)
-        × (place.table_id.slots ≤ 64) },
+        × (place.table_id.slots ≤ 128) },
     ghost filled: { 0 < place.table_id.slots },
     ghost sets: { place.me.0.sets ≡ true },
     ghost has: { place.me.0.mine ≡ Some last },
@@ -33,7 +33,7 @@ pub struct Setter<T: Grows + Drop> {
 pub struct Viewer<T: Grows + Drop> {
     pub(crate) board: Arc<Board<T>>,
     pub(crate) place: Place<T>,
-    // The number of its slot.
+    // The number of its first slot. The second is the next one.
     pub(crate) index: usize,
     // The last item that it found or learnt.
     pub(crate) mine: Item<T>,
@@ -41,8 +41,8 @@ pub struct Viewer<T: Grows + Drop> {
     pub(crate) most: u64,
     ghost seated: { place.table_id ≡ (arc_value board).shared.table_id },
     ghost sized: { (place.table_id.words ≡ 16 * place.table_id.slots)
-        × (place.table_id.slots ≤ 64) },
-    ghost within: { index < place.table_id.slots },
+        × (place.table_id.slots ≤ 128) },
+    ghost within: { index + 1 < place.table_id.slots },
     ghost has: { place.me.0.mine ≡ Some mine },
     ghost most_is: { place.me.0.most ≡ most },
     ghost free: { (place.me.0.slot ≡ 0) × (place.me.1 ≡ []) },

@@ -1,7 +1,8 @@
 //! A cell with one setter and viewers that never wait.
 //!
-//! The setter hands each viewer a share of each value that it sets, in a slot of the viewer's own.
-//! A value extends those that were set before it, and no viewer ever goes back.
+//! The setter hands each viewer two shares of each value that it sets, in slots of the viewer's own,
+//! one after the other. A value extends those that were set before it, no viewer ever goes back, and
+//! a look finds one of its slots free.
 #![tactic(auto)]
 
 mod board;

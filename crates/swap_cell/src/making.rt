@@ -1,8 +1,8 @@
 //! What makes a cell.
-ghost use Rattle.std.specs.Prelude.{◌≡◌, ◌<◌, ◌≤◌, ◌∷◌, [], All, length, IfOk};
+ghost use Rattle.std.specs.Prelude.{◌≡◌, ◌+◌, ◌<◌, ◌≤◌, ◌∷◌, [], All, length, IfOk};
 ghost use Rattle.swap_cell.specs.Cells.{Follows, HaveSlots, StaysSet, setter_cell, viewer_slot, last_set, set_before};
 
-use crate::board::{Item, STRIDE};
+use crate::board::{Item, SLOTS, STRIDE};
 use crate::handles::{Setter, Viewer};
 use crate::plays::Tell;
 use crate::setting::share_to;
@@ -32,18 +32,18 @@ pub fn cell<T: Grows + Drop>(
             value: first,
             number: 0,
         },
-        count,
+        SLOTS * count,
     )?;
     let mut ends = Vec::with_capacity(alloc, count)?;
     for index in 0..count {
-        let end = viewer(&mut setter, index)?;
+        let end = viewer(&mut setter, SLOTS * index)?;
         ends.push(end)?;
     }
     Ok((setter, ends))
 }
 
 fn setter<T: Grows + Drop>(alloc: Global, first: Item<T>, count: usize) -> Result<Setter<T>, Memory>
-    requires { (1 ≤ count) × (count ≤ 64) × (first.number ≡ 0) }
+    requires { (1 ≤ count) × (count ≤ 128) × (first.number ≡ 0) }
     ensures last { IfOk result (λ s. last_set s ≡ first.value) }
     ensures set { IfOk result (λ s. set_before s ≡ first.value ∷ []) }
     ensures slots { IfOk result (λ s. s.place.table_id.slots ≡ count) }
@@ -65,7 +65,7 @@ fn setter<T: Grows + Drop>(alloc: Global, first: Item<T>, count: usize) -> Resul
 }
 
 fn viewer<T: Grows + Drop>(setter: &mut Setter<T>, index: usize) -> Result<Viewer<T>, Memory>
-    requires { index < setter.old.place.table_id.slots }
+    requires { index + 1 < setter.old.place.table_id.slots }
     ensures cell { setter_cell setter.new ≡ setter_cell setter.old }
     ensures same { StaysSet setter.old setter.new }
     ensures viewer { IfOk result (Follows setter.old) }

@@ -31,6 +31,15 @@ impl<T> Play<Item<T>, Knowledge<T>> for Swap {
     ghost then = { swapped };
 }
 
+/// A viewer's flag is raised, lowered or read, which tells nothing.
+pub struct Flag;
+
+impl<T> Play<Item<T>, Knowledge<T>> for Flag {
+    ghost use Rattle.swap_cell.specs.Steps.{flagged};
+
+    ghost then = { flagged };
+}
+
 /// A value is set.
 pub struct Append;
 

@@ -1,12 +1,12 @@
 //! What the setter does.
 ghost use Rattle.std.specs.Prelude.{◌≡◌, ◌<◌, ◌≤◌, [], ◌∷◌, All, Some, drop, length, IfOk, IfErr};
 ghost use Rattle.swap_cell.specs.Rule.{Each};
-ghost use Rattle.swap_cell.specs.Steps.{IsAt, IsFree, HasTaken, IsHanding};
+ghost use Rattle.swap_cell.specs.Steps.{IsAt, IsFree, HasTaken, IsHanding, StaysSeated};
 ghost use Rattle.swap_cell.specs.Cells.{HasSet, StaysSet, setter_cell, told_cell, last_set, set_before, told_values};
 
-use crate::board::{Board, Item, Place, STRIDE};
+use crate::board::{Board, Item, Place, SLOTS, STRIDE};
 use crate::handles::{SetBack, Setter, Told};
-use crate::plays::{Append, Free, Lock, Tell};
+use crate::plays::{Append, Flag, Free, Lock, Tell};
 use crossbeam_utils::Backoff;
 use dp_base::{Grows, Memory};
 use std::sync::Wait;
@@ -56,7 +56,27 @@ pub(crate) fn lock<T: Grows + Drop, W: Wait>(
     unreachable!()
 }
 
-// Hands the item to the viewer with this slot.
+// Waits until the flag beside this slot is down.
+fn wait_for_flag<T: Grows + Drop, W: Wait>(
+    board: &Board<T>,
+    place: &mut Place<T>,
+    w: &W,
+    index: usize,
+)
+    requires table { IsAt board.now.shared.table_id place.old × (index < place.old.table_id.slots) }
+    ensures { StaysSeated place.old place.new }
+{
+    let backoff = Backoff::new();
+    for _ in w.forever() {
+        if board.shared.load::<Flag>(place, STRIDE * index + 1) == 0 {
+            return;
+        }
+        backoff.snooze();
+    }
+    unreachable!()
+}
+
+// Puts the item into the slot.
 fn hand<T: Grows + Drop, W: Wait>(
     board: &Board<T>,
     place: &mut Place<T>,
@@ -74,7 +94,9 @@ fn hand<T: Grows + Drop, W: Wait>(
     board.shared.store::<Free>(place, STRIDE * index, 0);
 }
 
-// Hands the items to the viewers, one to each.
+// Hands the items to the viewers, two to each. A viewer's second slot comes before its first, and
+// only where its flag is down: a look that raised it and finds the first slot taken then has the
+// second one for itself, since the next value comes there first.
 fn hand_all<T: Grows + Drop, W: Wait>(
     board: &Board<T>,
     place: &mut Place<T>,
@@ -91,13 +113,18 @@ fn hand_all<T: Grows + Drop, W: Wait>(
     ensures room { room.new.items ≡ [] }
 {
     while let Some(one) = room.pop() {
-        hand(board, place, w, room.len(), one);
+        let index = room.len();
+        if index % SLOTS == 1 {
+            wait_for_flag(board, place, w, index - 1);
+        }
+        hand(board, place, w, index, one);
     }
 }
 
 impl<T: Grows + Drop> Setter<T> {
-    /// Sets a value, and hands it to each viewer. It waits while a viewer has its slot. Where there
-    /// is no memory for the shares of the viewers, the value comes back and nothing has changed.
+    /// Sets a value, and hands it to each viewer. It waits while a viewer has one of its slots or
+    /// its flag is up. Where there is no memory for the shares of the viewers, the value comes back
+    /// and nothing has changed.
     pub fn set<W: Wait>(&mut self, w: &mut W, value: T) -> Result<(), SetBack<T>>
         requires { T.extends value (last_set self.old) }
         ensures cell { setter_cell self.new ≡ setter_cell self.old }

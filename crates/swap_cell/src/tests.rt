@@ -68,10 +68,10 @@ fn refusals(viewer: &mut Viewer<Level>) -> u64
     count
 }
 
-// While the setter has a viewer's slot, the viewer goes on with what it had, and what it is told
-// reaches it. No look finds too little memory.
+// While the setter has a viewer's first slot, a look shows the last value through the second. No
+// look finds too little memory, before a telling or after it.
 #[test]
-fn one_is_told_whose_slot_is_held(mut rt: HostRuntime) -> Result<(), Fail> {
+fn one_looks_whose_slot_is_held(mut rt: HostRuntime) -> Result<(), Fail> {
     let (mut setter, mut viewers) = cell(rt.alloc(), Level { metres: 1 }, 2)?;
     let (Some(mut second), Some(mut first)) = (viewers.pop(), viewers.pop()) else {
         panic!(rt; "there are two viewers")
@@ -94,7 +94,7 @@ fn one_is_told_whose_slot_is_held(mut rt: HostRuntime) -> Result<(), Fail> {
     let learnt = first.look()?;
     let after = refusals(&mut first);
     let others = refusals(&mut second);
-    assert_eq!(rt; (untold.metres, beside.metres, learnt.metres), (1, 5, 5));
+    assert_eq!(rt; (untold.metres, beside.metres, learnt.metres), (5, 5, 5));
     assert_eq!(rt; (before, after, others), (0, 0, 0));
     Ok(())
 }
@@ -106,8 +106,12 @@ const LAST: u64 = 10_000;
 struct Counts {
     // 1 when the setter is done.
     over: AtomicU64,
+    // The last level whose set has returned.
+    returned: AtomicU64,
     // The looks that went back, and the sets that were refused.
     faults: AtomicU64,
+    // The looks that showed less than the level whose set had returned before they began.
+    stale: AtomicU64,
     // The looks that found no memory.
     refusals: AtomicU64,
     // The viewers whose last look showed the last level.
@@ -128,6 +132,7 @@ fn set_all<W: Wait + Drop>(mut w: W, start: Start, counts: &Counts) {
             counts.faults.fetch_add(1, Ordering::SeqCst);
             break;
         }
+        counts.returned.store(metres, Ordering::SeqCst);
     }
     counts.over.store(1, Ordering::SeqCst);
 }
@@ -166,8 +171,14 @@ fn look_often(viewer: &mut Viewer<Level>, counts: &Counts) {
     let mut seen = 0;
     for _ in 0..u64::MAX {
         let over = counts.over.load(Ordering::SeqCst);
+        let returned = counts.returned.load(Ordering::SeqCst);
         match viewer.look() {
-            Ok(level) if level.metres >= seen => seen = level.metres,
+            Ok(level) if level.metres >= seen => {
+                seen = level.metres;
+                if seen < returned {
+                    counts.stale.fetch_add(1, Ordering::SeqCst);
+                }
+            }
             Ok(_) => {
                 counts.faults.fetch_add(1, Ordering::SeqCst);
             }
@@ -184,8 +195,8 @@ fn look_often(viewer: &mut Viewer<Level>, counts: &Counts) {
     }
 }
 
-// One thread sets 10,000 levels while seven look: no look goes back or finds no memory, and the last
-// shows the last.
+// One thread sets 10,000 levels while seven look: no look goes back, shows less than a set that had
+// returned before it began, or finds no memory, and the last shows the last.
 #[test]
 fn seven_look_while_one_sets(rt: HostRuntime) -> Result<(), Fail> {
     let (setter, mut viewers) = cell(rt.alloc(), Level { metres: 0 }, 7)?;
@@ -194,6 +205,8 @@ fn seven_look_while_one_sets(rt: HostRuntime) -> Result<(), Fail> {
         rt.alloc(),
         Counts {
             over: AtomicU64::new(0),
+            returned: AtomicU64::new(0),
+            stale: AtomicU64::new(0),
             faults: AtomicU64::new(0),
             refusals: AtomicU64::new(0),
             at_last: AtomicU64::new(0),
@@ -208,8 +221,9 @@ fn seven_look_while_one_sets(rt: HostRuntime) -> Result<(), Fail> {
     thread::for_each_mut(&rt, viewers.as_mut_slice(), 7, &look);
     child.join(&rt);
     let faults = counts.faults.load(Ordering::SeqCst);
+    let stale = counts.stale.load(Ordering::SeqCst);
     let refusals = counts.refusals.load(Ordering::SeqCst);
     let at_last = counts.at_last.load(Ordering::SeqCst);
-    assert_eq!(rt; (faults, refusals, at_last), (0, 0, 7));
+    assert_eq!(rt; (faults, stale, refusals, at_last), (0, 0, 0, 7));
     Ok(())
 }

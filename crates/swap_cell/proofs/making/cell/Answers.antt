@@ -1,4 +1,4 @@
-use Rattle.std.proofs.Common.{◌≡◌, ◌+◌, ◌∷◌, [], All, length, length-append, subst, sym, ap, ◌∙◌}
+use Rattle.std.proofs.Common.{◌≡◌, ◌+◌, ◌*◌, ◌∷◌, [], All, length, length-append, subst, sym, ap, ◌∙◌}
 use Rattle.swap_cell.specs.Cells.{HaveSlots, setter_cell, viewer_cell, known}
 use Rattle.swap_cell.proofs.Keeps.{all_more, slots_more}
 use Rattle.swap_cell.proofs.making.cell.Goals as goal
@@ -13,5 +13,5 @@ loop-index-preserved g c = let inv = c.loop-index.invariant in let s = c.viewer.
       n,
       subst (λ xs. All (λ z. (viewer_cell z ≡ setter_cell c.in_ok-setter.setter) × (known z ≡ c.args.first ∷ [])) xs) (sym c.in_ok-push.ensures.items)
           (all_more (λ z. (viewer_cell z ≡ setter_cell c.in_ok-setter.setter) × (known z ≡ c.args.first ∷ [])) _ _ inv.5 (v.0 ∙ inv.0, v.1 ∙ inv.2)),
-      subst HaveSlots (sym c.in_ok-push.ensures.items) (slots_more _ _ inv.6 (c.in_ok-end.ensures.slot ∙ sym inv.4)),
+      subst HaveSlots (sym c.in_ok-push.ensures.items) (slots_more _ _ inv.6 (c.in_ok-end.ensures.slot ∙ ap (λ n. 2 * n) (sym inv.4))),
     )

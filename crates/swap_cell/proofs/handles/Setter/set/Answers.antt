@@ -24,7 +24,7 @@ invariant_of-self-2 g c = let me = c.args.self.now in let a = (c.compare_exchang
     let l : length c.hand_all.new.place.me.0.chain ≡ length (me.place.me.0.chain ++ c.args.value ∷ []) = ap (λ z. length z) (h.7 ∙ ap (λ m. m.0.chain) a) in
     let k = length-append me.place.me.0.chain (c.args.value ∷ []) in let old = me.counts in record {
       seated = t ∙ me.seated;
-      sized = subst (λ z. (z.words ≡ 16 * z.slots) × (z.slots ≤ 64)) (sym t) me.sized;
+      sized = subst (λ z. (z.words ≡ 16 * z.slots) × (z.slots ≤ 128)) (sym t) me.sized;
       filled = subst (λ z. 0 < z.slots) (sym t) me.filled;
       sets = h.6 ∙ (ap (λ m. m.0.sets) a ∙ me.sets);
       has = h.3 ∙ ap (λ m. m.0.mine) a;

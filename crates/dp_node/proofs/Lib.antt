@@ -12,3 +12,8 @@ pub mod Sights
 pub mod HostSteps
 pub mod Placings
 pub mod Openings
+pub mod Floors
+pub mod Leading
+pub mod Positions
+pub mod Nows
+pub mod NodeOpenings

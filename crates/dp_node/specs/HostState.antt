@@ -8,7 +8,7 @@ use Rattle.ring_world.specs.declared.step.Step.TheVariants.{Take, Busy, Give, Ra
 use Rattle.ring_world.specs.Lists.{longer}
 use Rattle.ring_world.specs.Flight.{Sight, look_step, publish_step}
 use Rattle.dp_node.specs.declared.host.NodeFacts.{NodeFacts}
-use Rattle.dp_node.specs.declared.host.Busy.{Busy as BusyHost}
+use Rattle.flight_turn.specs.declared.turn.Busy.{Busy as BusyTurn}
 use Rattle.dp_node.specs.declared.error.ToldRefused.{ToldRefused}
 use Rattle.dp_node.specs.declared.error.ToldRefused.TheVariants.{Forked, Memory}
 
@@ -70,7 +70,7 @@ abbrev pub MayWant : ℕ → HostState → Type 0
 MayWant n s = IfSome s.single (λ one. n ≡ one.want)
 
 -- a try of the turn; a pass that is alone is never told Busy
-abbrev pub Takes : Result Unit BusyHost → HostState → HostState → Type 0
+abbrev pub Takes : Result Unit BusyTurn → HostState → HostState → Type 0
 Takes (Ok _) old new = (f : List Element) × Extends f old.floor × (new ≡ taken f old)
 Takes (Err busy) old new = (old.single ≡ None) × (new ≡ acted (Busy busy.holder) old)
 

@@ -6,3 +6,7 @@ pub mod Calls
 pub mod Places
 pub mod Opening
 pub mod Lent
+pub mod Floor
+pub mod Passes
+pub mod NodeOpening
+pub mod Now

@@ -8,16 +8,10 @@ ghost use Rattle.dp_node.specs.HostState.{HostState, Told, acted, looked_at, pub
 use crate::error::ToldRefused;
 use default_key::Options;
 use dp_base::Memory;
+use flight_turn::Busy;
 use key_elements::ElementList;
 use key_ring::Ring;
 use std::alloc::Global;
-
-/// Somebody else holds the turn.
-#[derive(Clone, Copy, Debug, PartialEq, Eq)]
-pub struct Busy {
-    /// The seat that holds it.
-    pub holder: u64,
-}
 
 /// Which pass of which node it is, from 0, and what holds of the node.
 #[derive(Clone, Copy, Debug, PartialEq, Eq)]

@@ -8,7 +8,10 @@ mod error;
 mod gather;
 mod host;
 mod lent;
+mod node;
+mod now;
 mod open;
+mod pass;
 mod place;
 mod settle;
 mod sight;
@@ -16,9 +19,13 @@ mod solo;
 
 pub use call::{At, ring_for};
 pub use error::{Fork, NodeError, ToldRefused};
-pub use host::{Busy, Host, HostView, NodeFacts};
+pub use flight_turn::Busy;
+pub use host::{Host, HostView, NodeFacts};
 pub use lent::Lent;
+pub use node::Node;
+pub use now::{NowRefused, ring_now};
 pub use open::OpenRefused;
+pub use pass::Pass;
 pub use place::{Placed, revoke, revoke_before, roll};
 pub use solo::Solo;
 

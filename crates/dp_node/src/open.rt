@@ -47,7 +47,7 @@ impl From<Memory> for OpenRefused {
 }
 
 // The refusal of an opening.
-fn refused_as(why: &NodeError) -> OpenRefused
+pub(crate) fn refused_as(why: &NodeError) -> OpenRefused
     ensures { result ≡ refused_as why.now }
 {
     match why {

@@ -5,9 +5,10 @@ ghost use Rattle.dp_node.specs.HostState.{solo_of};
 
 use crate::acts::Acts;
 use crate::error::{Fork, ToldRefused};
-use crate::host::{Busy, Host, HostView, NodeFacts};
+use crate::host::{Host, HostView, NodeFacts};
 use crate::sight::{fork, look_step};
 use dp_base::{Grows, Memory};
+use flight_turn::Busy;
 use key_elements::ElementList;
 use key_ring::Ring;
 use ring_world::Step;

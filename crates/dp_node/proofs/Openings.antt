@@ -8,17 +8,24 @@ use Rattle.ring_world.specs.declared.step.Step.{Step}
 use Rattle.ring_world.specs.Flight.{Gathers, Refusal}
 use Rattle.dp_node.specs.declared.error.NodeError.{NodeError}
 use Rattle.dp_node.specs.declared.error.NodeError.TheVariants as errors
-use Rattle.dp_node.specs.declared.host.NodeFacts.{NodeFacts}
+use Rattle.dp_node.specs.declared.open.OpenRefused.{OpenRefused}
+use Rattle.dp_node.specs.declared.open.OpenRefused.TheVariants as refused
 use Rattle.dp_node.specs.HostState.{HostState}
 use Rattle.dp_node.specs.Books.{books, Does}
 use Rattle.dp_node.specs.Calls.{terms}
 use Rattle.dp_node.specs.Gather.{refusal}
 use Rattle.dp_node.specs.Opening.{OpeningGives, refused_as}
 
-pub opens_refused : (facts : NodeFacts) (why : NodeError) → OpeningGives facts (Err (refused_as why)) (Err (refusal why))
-opens_refused facts errors.StoreFault = refl
-opens_refused facts errors.DrawFault = refl
-opens_refused facts _ = tt
+pub opens_refused : {A : Type 0} (IsOver : RingOf → A → Type 0) (why : NodeError) → OpeningGives IsOver (Err (refused_as why)) (Err (refusal why))
+opens_refused IsOver errors.StoreFault = refl
+opens_refused IsOver errors.DrawFault = refl
+opens_refused IsOver _ = tt
+
+-- a refusal says the same, whatever would stand over the ring
+pub same_refused : {A B : Type 0} (P : RingOf → A → Type 0) (Q : RingOf → B → Type 0) (why : OpenRefused) (r : Result RingOf Refusal) → OpeningGives P (Err why) r → OpeningGives Q (Err why) r
+same_refused P Q refused.StoreFault r h = h
+same_refused P Q refused.DrawFault r h = h
+same_refused P Q refused.Memory r h = tt
 
 -- what an opening did, told of the repository and the draw that it hands back
 pub handed_back : (now : ℕ) (options : Options) (r : Result RingOf Refusal) (host : HostState) (steps : List Step) (from : Store) (drew : DrawState) {s s' : Store} {t t' : DrawState} → s' ≡ s → t' ≡ t

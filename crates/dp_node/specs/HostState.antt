@@ -85,14 +85,17 @@ Told list (Err Memory) old new = new ≡ old
 abbrev pub Steady : HostState → HostState → Type 0
 Steady old new = (new.own ≡ old.own) × (new.held ≡ old.held)
 
--- a pass that is alone, after its opening
-abbrev pub solo_of : NodeFacts → RingOf → HostState
-solo_of facts r = record {
+-- a pass over a ring whose list it has seen, after the opening; one that is alone tells what it shows
+abbrev pub opened_over : NodeFacts → RingOf → HostState
+opened_over facts r = record {
   facts = facts;
   own = r.list;
   looked = r;
   held = false;
   floor = r.list;
   acts = [];
-  single = Some (record { want = 0; ring = r });
+  single = None;
 }
+
+abbrev pub solo_of : NodeFacts → RingOf → HostState
+solo_of facts r = record (opened_over facts r) { single = Some (record { want = 0; ring = r }) }

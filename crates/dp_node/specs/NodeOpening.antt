@@ -1,20 +1,18 @@
 -- The opening of a node of many passes.
-use Rattle.std.specs.Prelude.{◌≡◌, ℕ, ◌+◌, ◌<◌, List, [], ◌∷◌, length, slice_index_or, Result, Ok, Err}
+use Rattle.std.specs.Prelude.{◌≡◌, ℕ, ◌+◌, ◌<◌, List, [], ◌∷◌, length, slice_index_or}
 use Rattle.std.specs.declared.vec.Vec.{Vec}
 use Rattle.std.specs.declared.alloc.Global.{Global}
 use Rattle.default_key.specs.declared.options.Options.{Options}
 use Rattle.key_ring.specs.Ring.{RingOf}
-use Rattle.ring_world.specs.Flight.{Refusal, StoreFault, DrawFault}
 use Rattle.swap_cell.specs.declared.handles.Setter.{Setter}
 use Rattle.swap_cell.specs.declared.handles.Viewer.{Viewer}
 use Rattle.swap_cell.specs.Cells.{setter_cell, viewer_cell, known}
 use Rattle.flight_turn.specs.declared.turn.Turn.{Turn}
 use Rattle.flight_turn.specs.Seats.{turn_mark}
 use Rattle.dp_node.specs.declared.host.NodeFacts.{NodeFacts}
-use Rattle.dp_node.specs.declared.open.OpenRefused.{OpenRefused}
-use Rattle.dp_node.specs.declared.open.OpenRefused.TheVariants as refused
 use Rattle.dp_node.specs.declared.pass.Pass.{Pass}
-use Rattle.dp_node.specs.Passes.{state_of, opened_over}
+use Rattle.dp_node.specs.HostState.{opened_over}
+use Rattle.dp_node.specs.Passes.{state_of}
 
 -- the first pass of the node
 abbrev pub facts_of : ℕ → ℕ → Options → NodeFacts
@@ -36,10 +34,5 @@ AreOpened facts r n passes = (i : ℕ) (d : Pass) → i < length passes → IsOp
 abbrev pub ArePasses : NodeFacts → RingOf → ℕ → List Pass → Type 0
 ArePasses facts r n passes = (length passes ≡ n) × AreOpened facts r n passes
 
--- what is answered where the ring was made, or wasn't for this reason; want of memory may come at any
--- time
-abbrev pub OpensAll : NodeFacts → ℕ → Result (Vec Pass Global) OpenRefused → Result RingOf Refusal → Type 0
-OpensAll facts n (Ok passes) r = (ring : RingOf) × (r ≡ Ok ring) × ArePasses facts ring n passes.items
-OpensAll facts n (Err refused.StoreFault) r = r ≡ Err StoreFault
-OpensAll facts n (Err refused.DrawFault) r = r ≡ Err DrawFault
-OpensAll facts n (Err refused.Memory) r = Unit {0}
+abbrev pub IsNode : NodeFacts → ℕ → RingOf → Vec Pass Global → Type 0
+IsNode facts n r passes = ArePasses facts r n passes.items

@@ -1,14 +1,19 @@
 -- The opening of a node.
-use Rattle.std.specs.Prelude.{◌≡◌, ℕ, Result, Ok, Err}
+use Rattle.std.specs.Prelude.{◌≡◌, ℕ, true, List, [], Result, Ok, Err}
+use Rattle.dp_base.specs.Draws.{DrawState}
 use Rattle.default_key.specs.declared.options.Options.{Options}
 use Rattle.key_ring.specs.Ring.{RingOf}
-use Rattle.ring_world.specs.Flight.{Refusal, StoreFault, DrawFault}
+use Rattle.repo_keeper.specs.Store.{Store}
+use Rattle.ring_world.specs.declared.step.Step.{Step}
+use Rattle.ring_world.specs.Flight.{Gathers, Refusal, StoreFault, DrawFault}
 use Rattle.dp_node.specs.declared.error.NodeError.{NodeError}
 use Rattle.dp_node.specs.declared.error.NodeError.TheVariants as errors
 use Rattle.dp_node.specs.declared.host.NodeFacts.{NodeFacts}
 use Rattle.dp_node.specs.declared.open.OpenRefused.{OpenRefused}
 use Rattle.dp_node.specs.declared.open.OpenRefused.TheVariants as refused
 use Rattle.dp_node.specs.HostState.{HostState, solo_of}
+use Rattle.dp_node.specs.Books.{books, Does}
+use Rattle.dp_node.specs.Calls.{terms}
 
 -- the first pass of the first node
 abbrev pub first_facts : ℕ → Options → NodeFacts
@@ -19,10 +24,25 @@ refused_as errors.StoreFault = refused.StoreFault
 refused_as errors.DrawFault = refused.DrawFault
 refused_as _ = refused.Memory
 
--- what is answered where the ring was made, or wasn't for this reason; want of memory may come at any
--- time
-abbrev pub OpeningGives : NodeFacts → Result HostState OpenRefused → Result RingOf Refusal → Type 0
-OpeningGives facts (Ok solo) r = (ring : RingOf) × (r ≡ Ok ring) × (solo ≡ solo_of facts ring)
-OpeningGives facts (Err refused.StoreFault) r = r ≡ Err StoreFault
-OpeningGives facts (Err refused.DrawFault) r = r ≡ Err DrawFault
-OpeningGives facts (Err refused.Memory) r = Unit {0}
+-- what is answered where the ring was made, and so is what stands over it, or where it wasn't for this
+-- reason; want of memory may come at any time
+abbrev pub OpeningGives : {A : Type 0} → (RingOf → A → Type 0) → Result A OpenRefused → Result RingOf Refusal → Type 0
+OpeningGives IsOver (Ok x) r = (ring : RingOf) × (r ≡ Ok ring) × IsOver ring x
+OpeningGives IsOver (Err refused.StoreFault) r = r ≡ Err StoreFault
+OpeningGives IsOver (Err refused.DrawFault) r = r ≡ Err DrawFault
+OpeningGives IsOver (Err refused.Memory) r = Unit {0}
+
+-- an opening at the moment: repository and draws moved as by a way to a first ring, and that is what it
+-- came to
+abbrev pub Opens : {A : Type 0} → ℕ → Options → (RingOf → A → Type 0) → Result A OpenRefused → Store → Store → DrawState → DrawState → Type 0
+Opens now options IsOver result from to old new =
+    (r : Result RingOf Refusal) × (steps : List Step) × OpeningGives IsOver result r
+    × ((host : HostState) → Does (Gathers (terms now options true from.list to.list) [] r) (books [] host from old) (books steps host to new))
+
+-- the ring itself
+abbrev pub IsRing : RingOf → RingOf → Type 0
+IsRing ring made = made ≡ ring
+
+-- the pass that is alone at a node over the ring
+abbrev pub IsSolo : NodeFacts → RingOf → HostState → Type 0
+IsSolo facts ring solo = solo ≡ solo_of facts ring

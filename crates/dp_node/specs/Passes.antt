@@ -1,12 +1,11 @@
 -- A pass of a node of many threads, as the clauses of a host see it.
-use Rattle.std.specs.Prelude.{◌≡◌, ◌+◌, false, [], Option, None, is_some, option_map, IfSome}
+use Rattle.std.specs.Prelude.{◌≡◌, ◌+◌, Option, None, is_some, option_map, IfSome}
 use Rattle.key_elements.specs.Lists.{Extends}
 use Rattle.key_ring.specs.Ring.{RingOf}
 use Rattle.swap_cell.specs.declared.handles.Setter.{Setter}
 use Rattle.swap_cell.specs.Cells.{last_set}
 use Rattle.flight_turn.specs.declared.seat.TurnSeat.{TurnSeat}
 use Rattle.flight_turn.specs.Seats.{steps}
-use Rattle.dp_node.specs.declared.host.NodeFacts.{NodeFacts}
 use Rattle.dp_node.specs.declared.pass.Pass.{Pass}
 use Rattle.dp_node.specs.HostState.{HostState}
 use Rattle.dp_node.specs.Floor.{floor_of}
@@ -37,15 +36,3 @@ HasStepped old new = steps (seat_of new) ≡ steps (seat_of old) + 1
 -- while the turn is held, the floor extends the list that was published last at the node
 abbrev pub LeadsNode : Pass → Type 0
 LeadsNode p = IfSome (set_last p) (λ r. Extends (state_of p).floor r.list)
-
--- a pass of a node over a ring whose list it has seen, after the opening
-abbrev pub opened_over : NodeFacts → RingOf → HostState
-opened_over facts r = record {
-  facts = facts;
-  own = r.list;
-  looked = r;
-  held = false;
-  floor = r.list;
-  acts = [];
-  single = None;
-}

@@ -1,29 +1,21 @@
 //! The opening of a node of many passes.
 
-ghost use Rattle.std.specs.Prelude.{◌≡◌, ◌≤◌, ◌∷◌, All, IfOk, List, Result, [], length, true};
+ghost use Rattle.std.specs.Prelude.{◌≡◌, ◌≤◌, ◌∷◌, All, IfOk, [], length};
 ghost use Rattle.std.specs.Arc.{arc_value};
 ghost use Rattle.dp_base.specs.declared.ticks.TheConstants.{LAST};
-ghost use Rattle.key_ring.specs.Ring.{RingOf};
-ghost use Rattle.ring_world.specs.declared.step.Step.{Step};
-ghost use Rattle.ring_world.specs.Flight.{Gathers, Refusal};
 ghost use Rattle.swap_cell.specs.Cells.{setter_cell};
 ghost use Rattle.flight_turn.specs.Seats.{IsSeatOf, AreNew};
-ghost use Rattle.dp_node.specs.HostState.{HostState};
-ghost use Rattle.dp_node.specs.Books.{books, Does};
-ghost use Rattle.dp_node.specs.Calls.{terms};
-ghost use Rattle.dp_node.specs.NodeOpening.{OpensAll, IsEndOf, ArePasses, facts_of};
+ghost use Rattle.dp_node.specs.Opening.{Opens};
+ghost use Rattle.dp_node.specs.NodeOpening.{IsEndOf, IsNode, ArePasses, facts_of};
 
 use crate::host::NodeFacts;
-use crate::lent::Sources;
-use crate::open::{OpenRefused, refused_as};
+use crate::open::{OpenRefused, first_ring};
 use crate::pass::Pass;
 use default_key::Options;
 use dp_base::{Draw, Grows, Memory};
 use flight_turn::{Turn, TurnSeat};
-use key_elements::ElementList;
 use key_ring::Ring;
 use repo_keeper::Repo;
-use ring_world::StepList;
 use std::alloc::Global;
 use std::sync::{Arc, Wait};
 use swap_cell::{Setter, Viewer, cell};
@@ -93,33 +85,16 @@ impl Node {
     ) -> Result<Vec<Pass>, OpenRefused>
         requires moment { now ≤ LAST }
         requires passes { (1 ≤ passes) × (passes ≤ 64) }
-        ensures opened { (r : Result RingOf Refusal) × (steps : List Step) × OpensAll
-            (facts_of node now options) passes result r
-            × ((host : HostState) → Does (Gathers (terms now options true
-            (R.store repo.old).list (R.store repo.new).list) [] r)
-            (books [] host (R.store repo.old) (D.draws draw.old))
-            (books steps host (R.store repo.new) (D.draws draw.new))) }
+        ensures opened { Opens now options (IsNode (facts_of node now options) passes) result
+            (R.store repo.old) (R.store repo.new) (D.draws draw.old) (D.draws draw.new) }
     {
-        let mut steps = StepList::with_room(alloc)?;
-        let base = ElementList::empty();
-        let mut sources = Sources {
-            w,
-            alloc,
-            repo,
-            draw,
-            steps: &mut steps,
+        let ring = first_ring(w, alloc, repo, draw, now, options)?;
+        let facts = NodeFacts {
+            node,
+            pass: 0,
+            opened_at: now,
+            options,
         };
-        match sources.gather(&base, now, &options, true) {
-            Ok(ring) => {
-                let facts = NodeFacts {
-                    node,
-                    pass: 0,
-                    opened_at: now,
-                    options,
-                };
-                Ok(passes_over(alloc, facts, ring, passes)?)
-            }
-            Err(why) => Err(refused_as(&why)),
-        }
+        Ok(passes_over(alloc, facts, ring, passes)?)
     }
 }

@@ -1,14 +1,8 @@
-//! The opening of a node of one thread.
+//! The opening of a node.
 
-ghost use Rattle.std.specs.Prelude.{◌≡◌, ◌≤◌, List, [], Result, true};
+ghost use Rattle.std.specs.Prelude.{◌≡◌, ◌≤◌};
 ghost use Rattle.dp_base.specs.declared.ticks.TheConstants.{LAST};
-ghost use Rattle.key_ring.specs.Ring.{RingOf};
-ghost use Rattle.ring_world.specs.declared.step.Step.{Step};
-ghost use Rattle.ring_world.specs.Flight.{Gathers, Refusal};
-ghost use Rattle.dp_node.specs.HostState.{HostState};
-ghost use Rattle.dp_node.specs.Books.{books, Does};
-ghost use Rattle.dp_node.specs.Calls.{terms};
-ghost use Rattle.dp_node.specs.Opening.{OpeningGives, first_facts, refused_as};
+ghost use Rattle.dp_node.specs.Opening.{Opens, IsRing, IsSolo, first_facts, refused_as};
 
 use crate::error::NodeError;
 use crate::host::NodeFacts;
@@ -17,6 +11,7 @@ use crate::solo::Solo;
 use default_key::Options;
 use dp_base::{Draw, Memory};
 use key_elements::ElementList;
+use key_ring::Ring;
 use repo_keeper::Repo;
 use ring_world::StepList;
 use std::alloc::Global;
@@ -47,13 +42,41 @@ impl From<Memory> for OpenRefused {
 }
 
 // The refusal of an opening.
-pub(crate) fn refused_as(why: &NodeError) -> OpenRefused
+fn refused_as(why: &NodeError) -> OpenRefused
     ensures { result ≡ refused_as why.now }
 {
     match why {
         NodeError::StoreFault => OpenRefused::StoreFault,
         NodeError::DrawFault => OpenRefused::DrawFault,
         _ => OpenRefused::Memory,
+    }
+}
+
+// The first ring of a node that is opened at the moment.
+pub(crate) fn first_ring<W, R: Repo<W>, D: Draw>(
+    w: &mut W,
+    alloc: Global,
+    repo: &mut R,
+    draw: &mut D,
+    now: u64,
+    options: Options,
+) -> Result<Ring, OpenRefused>
+    requires moment { now ≤ LAST }
+    ensures opened { Opens now options IsRing result (R.store repo.old) (R.store repo.new)
+        (D.draws draw.old) (D.draws draw.new) }
+{
+    let mut steps = StepList::with_room(alloc)?;
+    let base = ElementList::empty();
+    let mut sources = Sources {
+        w,
+        alloc,
+        repo,
+        draw,
+        steps: &mut steps,
+    };
+    match sources.gather(&base, now, &options, true) {
+        Ok(ring) => Ok(ring),
+        Err(why) => Err(refused_as(&why)),
     }
 }
 
@@ -69,33 +92,16 @@ impl Solo {
         options: Options,
     ) -> Result<Solo, OpenRefused>
         requires moment { now ≤ LAST }
-        ensures opened { (r : Result RingOf Refusal) × (steps : List Step) × OpeningGives
-            (first_facts now options) result r
-            × ((host : HostState) → Does (Gathers (terms now options true
-            (R.store repo.old).list (R.store repo.new).list) [] r)
-            (books [] host (R.store repo.old) (D.draws draw.old))
-            (books steps host (R.store repo.new) (D.draws draw.new))) }
+        ensures opened { Opens now options (IsSolo (first_facts now options)) result
+            (R.store repo.old) (R.store repo.new) (D.draws draw.old) (D.draws draw.new) }
     {
-        let mut steps = StepList::with_room(alloc)?;
-        let base = ElementList::empty();
-        let mut sources = Sources {
-            w: &mut (),
-            alloc,
-            repo,
-            draw,
-            steps: &mut steps,
+        let ring = first_ring(&mut (), alloc, repo, draw, now, options)?;
+        let facts = NodeFacts {
+            node: 0,
+            pass: 0,
+            opened_at: now,
+            options,
         };
-        match sources.gather(&base, now, &options, true) {
-            Ok(ring) => {
-                let facts = NodeFacts {
-                    node: 0,
-                    pass: 0,
-                    opened_at: now,
-                    options,
-                };
-                Ok(Solo::over(facts, ring)?)
-            }
-            Err(why) => Err(refused_as(&why)),
-        }
+        Ok(Solo::over(facts, ring)?)
     }
 }

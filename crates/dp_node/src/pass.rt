@@ -54,7 +54,8 @@ pub struct Pass {
 impl Pass {
     ghost use Rattle.std.specs.Prelude.{IfOk, false, ◌∷◌, []};
     ghost use Rattle.swap_cell.specs.Cells.{known};
-    ghost use Rattle.dp_node.specs.Passes.{state_of, opened_over, set_last, LeadsNode};
+    ghost use Rattle.dp_node.specs.HostState.{opened_over};
+    ghost use Rattle.dp_node.specs.Passes.{state_of, set_last, LeadsNode};
 
     /// Each later look extends the ring last looked at or published, and, while the turn is held,
     /// the ring last published at the node. Nothing is done.

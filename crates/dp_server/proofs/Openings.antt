@@ -16,14 +16,12 @@ use Rattle.dp_node.specs.declared.open.OpenRefused.TheVariants as refused
 use Rattle.dp_node.specs.HostState.{HostState}
 use Rattle.dp_node.specs.Books.{books, Does, tally, draws_failed}
 use Rattle.dp_node.specs.Calls.{terms}
-use Rattle.dp_node.specs.Opening.{OpeningGives, first_facts}
+use Rattle.dp_node.specs.Opening.{Opens, IsSolo, first_facts}
 use Rattle.dp_session.specs.declared.status.Status.TheVariants as status
 use Rattle.dp_server.specs.Pipe.{AreStandard, around, IsOpening, status_of}
 
 abbrev Opened : Result HostState OpenRefused → Options → Store → Store → DrawState → DrawState → ℕ → Type 0
-Opened opened options s s' d d' now =
-    (r : Result RingOf Refusal) × (steps : List Step) × OpeningGives (first_facts now options) opened r
-    × ((host : HostState) → Does (Gathers (terms now options true s.list s'.list) [] r) (books [] host s d) (books steps host s' d'))
+Opened opened options s s' d d' now = Opens now options (IsSolo (first_facts now options)) opened s s' d d'
 
 pub opening_of : (auto : Bool) (opened : Result HostState OpenRefused) (i o : Option (List ℕ)) (s s' : Store) (d d' : DrawState) (m m' : Option (List ℕ)) (moment now : ℕ) (options : Options) → ShowsMoment m m' moment → now ≡ min moment LAST → AreStandard auto options → Opened opened options s s' d d' now
     → IsOpening auto opened (around i o s d m) (around i o s' d' m')

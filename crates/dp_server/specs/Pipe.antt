@@ -16,7 +16,7 @@ use Rattle.dp_node.specs.declared.open.OpenRefused.TheVariants as refused
 use Rattle.dp_node.specs.HostState.{HostState}
 use Rattle.dp_node.specs.Books.{books, Does}
 use Rattle.dp_node.specs.Calls.{terms}
-use Rattle.dp_node.specs.Opening.{OpeningGives, first_facts}
+use Rattle.dp_node.specs.Opening.{OpeningGives, IsSolo, first_facts}
 use Rattle.dp_session.specs.declared.status.Status.{Status}
 use Rattle.dp_session.specs.declared.status.Status.TheVariants as status
 use Rattle.dp_session.specs.Fresh.{AreFresh, AreCountedBy}
@@ -52,7 +52,7 @@ pub record IsOpening (auto : Bool) (opened : Result HostState OpenRefused) (old 
   pub standard : AreStandard auto options
   pub ring : Result RingOf Refusal
   pub steps : List Step
-  pub opens : OpeningGives (first_facts (min moment LAST) options) opened ring
+  pub opens : OpeningGives (IsSolo (first_facts (min moment LAST) options)) opened ring
   pub did : (host : HostState) → Does (Gathers (terms (min moment LAST) options true old.store.list new.store.list) [] ring) (books [] host old.store old.draws) (books steps host new.store new.draws)
   pub input : new.input ≡ old.input
   pub output : new.output ≡ old.output

@@ -1,56 +1,23 @@
-use Rattle.std.proofs.Common.{rules, refl, [], ◌∷◌, Ok, Err, None}
+use Rattle.std.proofs.Common.{sym, ap, ◌∙◌, Ok}
 use Rattle.std.proofs.lemmas.Result.{err_from_is_err_and}
-use Rattle.ring_world.specs.declared.step.Step.TheVariants.{ReadFailed}
-use Rattle.ring_world.specs.Course.{idle}
-use Rattle.ring_world.specs.Flight.{Memory, NoRead, Broken, cut}
-use Rattle.dp_node.specs.Gather.{refusal}
-use Rattle.dp_node.specs.NodeOpening.{facts_of}
-use Rattle.dp_node.proofs.Books.{exactly, nothing, Grows-refl}
-use Rattle.dp_node.proofs.Fronts.{front}
-use Rattle.dp_node.proofs.Openings.{handed_back}
-use Rattle.dp_node.proofs.NodeOpenings.{opens_none}
+use Rattle.dp_node.specs.Opening.{IsRing}
+use Rattle.dp_node.specs.NodeOpening.{IsNode, facts_of}
+use Rattle.dp_node.proofs.Openings.{same_refused}
 use Rattle.dp_node.proofs.node.Node.open.Goals as goal
 
-pub returns-in_err-steps : goal.returns-in_err-steps
-returns-in_err-steps g c =
+pub returns-in_err-ring : goal.returns-in_err-ring
+returns-in_err-ring g c =
     let p = err_from_is_err_and c.from_residual.result c.from_residual.ensures.1 in
-    record {
-      opened = (
-        Err Memory,
-        [],
-        rw (p.1, p.2) tt,
-        λ host. exactly idle (nothing [] host _ _) (cut (Broken NoRead) tt refl (front idle [] (ReadFailed ∷ []) [] [] None 0 refl)),
-      );
-    }
+    let o = c.in_err-ring.ensures.opened in
+    record { opened = (o.0, o.1, rw (p.1, p.2) (same_refused IsRing (IsNode (facts_of c.args.node c.args.now c.args.options) c.args.passes) c.in_err-ring.field-0.0 o.0 o.2), o.3) }
 
-pub returns-in_err-passes_over-in-Ok : goal.returns-in_err-passes_over-in-Ok
-returns-in_err-passes_over-in-Ok g c =
-    let p = err_from_is_err_and c.from_residual-in_err-passes_over-in-Ok.result c.from_residual-in_err-passes_over-in-Ok.ensures.1 in
-    record {
-      opened = (
-        Ok c.in-Ok.ring,
-        c.gather.new.self.steps.now,
-        rw (p.1, p.2) tt,
-        λ host. handed_back c.args.now c.args.options (Ok c.in-Ok.ring) host _ _ _ (search rules) (search rules) (rw (c.in_ok-steps.ensures, c.empty-base.ensures) at (c.in-Ok.ensures.did host (g.R.Repo.store c.args.repo.now).list (Grows-refl _))),
-      );
-    }
-
-pub returns-in-Ok : goal.returns-in-Ok
-returns-in-Ok g c = record {
-  opened = (
-    Ok c.in-Ok.ring,
-    c.gather.new.self.steps.now,
-    (c.in-Ok.ring, refl, c.in_ok-passes_over-in-Ok.ensures),
-    λ host. handed_back c.args.now c.args.options (Ok c.in-Ok.ring) host _ _ _ (search rules) (search rules) (rw (c.in_ok-steps.ensures, c.empty-base.ensures) at (c.in-Ok.ensures.did host (g.R.Repo.store c.args.repo.now).list (Grows-refl _))),
-  );
-}
+pub returns-in_err-passes_over : goal.returns-in_err-passes_over
+returns-in_err-passes_over g c =
+    let p = err_from_is_err_and c.from_residual-in_err-passes_over.result c.from_residual-in_err-passes_over.ensures.1 in
+    let o = c.in_ok-ring.ensures.opened in
+    record { opened = (o.0, o.1, rw (p.1, p.2) tt, o.3) }
 
 pub returns : goal.returns
-returns g c = record {
-  opened = (
-    Err (refusal c.in-Err.why),
-    c.gather.new.self.steps.now,
-    rw c.refused_as.ensures (opens_none (facts_of c.args.node c.args.now c.args.options) c.args.passes c.in-Err.why),
-    λ host. handed_back c.args.now c.args.options (Err (refusal c.in-Err.why)) host _ _ _ (search rules) (search rules) (rw (c.in_ok-steps.ensures, c.empty-base.ensures) at (c.in-Err.ensures.did host (g.R.Repo.store c.args.repo.now).list (Grows-refl _))),
-  );
-}
+returns g c =
+    let o = c.in_ok-ring.ensures.opened in
+    record { opened = (o.0, o.1, (c.in_ok-ring.ring, o.2.1 ∙ ap Ok (sym o.2.2), c.in_ok-passes_over.ensures), o.3) }

@@ -16,6 +16,8 @@ mod making;
 mod meeting;
 mod plays;
 mod shelf;
+#[cfg(test)]
+mod tests;
 
 pub use closing::{CloseRefused, close};
 pub use handles::{Link, SharedRepo};

@@ -1,0 +1,9 @@
+pub mod Shelves
+pub mod Rule
+pub mod Steps
+pub mod Mine
+pub mod Seats
+pub mod Links
+pub mod Repos
+pub mod Meets
+pub mod Closes

@@ -30,4 +30,6 @@ pub use place::{Placed, revoke, revoke_before, roll};
 pub use solo::Solo;
 
 #[cfg(test)]
+mod pass_tests;
+#[cfg(test)]
 mod tests;

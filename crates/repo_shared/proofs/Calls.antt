@@ -1,5 +1,5 @@
 -- What a call of a link leaves.
-use Rattle.std.proofs.Common.{◌≡◌, ◌⊎◌, ℕ, zero, suc, ◌+◌, ◌-◌, ◌<◌, ◌≤◌, true, false, List, [], ◌∷◌, ◌++◌, length, map, take, drop, All, slice_get, Option, Some, None, Result, Ok, Err, IfErr, refl, inl, inr, ⊎_elim, sym, ap, ◌∙◌, subst, append_assoc, arith, rules}
+use Rattle.std.proofs.Common.{◌≡◌, ◌⊎◌, ℕ, zero, suc, ◌+◌, ◌-◌, ◌<◌, ◌≤◌, List, [], ◌∷◌, ◌++◌, length, map, take, drop, All, slice_get, Option, Some, Result, Ok, Err, IfErr, refl, inl, inr, ⊎_elim, sym, ap, ◌∙◌, subst, append_assoc, arith}
 use Rattle.std.proofs.lemmas.List.{map-append, length-append, length-map, length-drop, length-take-le}
 use Rattle.std.proofs.lemmas.Option.{none-some}
 use Rattle.std.specs.declared.vec.Vec.{Vec}
@@ -10,7 +10,7 @@ use Rattle.key_elements.specs.declared.element.Element.{Element}
 use Rattle.key_elements.specs.Lists.{Extends}
 use Rattle.repo_keeper.specs.declared.repo.RepoError.{RepoError}
 use Rattle.repo_keeper.specs.declared.repo.RepoError.TheVariants as refused
-use Rattle.repo_keeper.specs.Store.{IsCause, IsReadCause, IsTail}
+use Rattle.repo_keeper.specs.Store.{IsCause, IsReadCause}
 use Rattle.repo_shared.specs.declared.shelf.Shelf.{Shelf}
 use Rattle.repo_shared.specs.declared.board.Entry.{Entry}
 use Rattle.repo_shared.specs.declared.board.Knowledge.{Knowledge}

@@ -1,5 +1,5 @@
 -- Each kind of step on the table of a shared repository keeps its rule.
-use Rattle.std.proofs.Common.{◌≡◌, ◌≢◌, ◌⊎◌, ℕ, zero, suc, ◌+◌, ◌-◌, ◌%◌, ◌^◌, ◌<◌, ◌≤◌, true, false, eqb, Option, Some, None, List, [], ◌∷◌, ◌++◌, length, get_or, set, map, take, drop, sym, refl, ap, ◌∙◌, subst, inl, inr, ⊎_elim, arith, rules}
+use Rattle.std.proofs.Common.{◌≡◌, ◌≢◌, ◌⊎◌, ℕ, zero, suc, ◌+◌, ◌-◌, ◌%◌, ◌^◌, ◌≤◌, true, false, eqb, Option, Some, List, [], ◌∷◌, ◌++◌, length, get_or, set, sym, refl, ap, ◌∙◌, subst, inl, inr, ⊎_elim, arith}
 use Rattle.std.proofs.lemmas.Bool.{false≢true}
 use Rattle.std.proofs.lemmas.List.{length-append}
 use mathlib.Core.Option.{some, none, some-injective, some-ne-none}
@@ -7,13 +7,12 @@ use mathlib.Core.Option as maybe
 use lib.ListN.{get_elem?}
 use prog.Atomic.{either}
 use Rattle.atomic_table.specs.Table.{Me, Act, takes, gives, keeps, step, opening, rest, Valid, homes_after, carried_after, Allows, Splits, Joins}
-use Rattle.atomic_table.proofs.Lists.{at_set, set_again, exchanged}
-use Rattle.key_elements.specs.declared.element.Element.{Element}
+use Rattle.atomic_table.proofs.Lists.{at_set, exchanged}
 use Rattle.key_elements.specs.declared.list.TheConstants.{MAX_ELEMENTS}
 use Rattle.repo_shared.specs.declared.shelf.Shelf.{Shelf}
 use Rattle.repo_shared.specs.declared.board.Entry.{Entry}
 use Rattle.repo_shared.specs.declared.board.Knowledge.{Knowledge}
-use Rattle.repo_shared.specs.Rule.{Each, StartsWith, Fits, Lies, Rules, Kept, seated, elements, authored, newcomer, opener}
+use Rattle.repo_shared.specs.Rule.{Each, StartsWith, Fits, Lies, Rules, Kept, seated, elements, authored, opener}
 use Rattle.repo_shared.specs.Steps.{locked, grown, appended, counted, unlocked, counts_on, made, teller, learnt, spent, gained, last_authored}
 use Rattle.repo_shared.proofs.Fronts.{starts_whole, starts_length, starts_self, starts_trans, starts_append, longer_is, each_front, each_append, elements_authored, elements_last_authored, elements_gained, length_gained}
 

@@ -1,14 +1,13 @@
 -- What clauses read of a link.
-use Rattle.std.specs.Prelude.{◌≡◌, ℕ, ◌+◌, List, [], ◌∷◌, length, slice_get, Option, Some, Result, Ok, Err}
+use Rattle.std.specs.Prelude.{◌≡◌, ℕ, ◌+◌, List, [], ◌∷◌, slice_get, Some, Result, Ok, Err}
 use Rattle.std.specs.declared.vec.Vec.{Vec}
 use Rattle.std.specs.declared.alloc.Global.{Global}
 use Rattle.atomic_table.specs.Seated.{TableId}
 use Rattle.dp_base.specs.Counts.{more}
 use Rattle.key_elements.specs.declared.element.Element.{Element}
-use Rattle.repo_keeper.specs.Store.{Store, Mark, Tally, read_tally}
+use Rattle.repo_keeper.specs.Store.{Store, Mark, read_tally}
 use Rattle.repo_keeper.specs.declared.repo.RepoError.{RepoError}
 use Rattle.repo_keeper.specs.declared.repo.RepoError.TheVariants.{Failed, Short, Full, Memory}
-use Rattle.repo_shared.specs.declared.board.Entry.{Entry}
 use Rattle.repo_shared.specs.declared.board.Knowledge.{Knowledge}
 use Rattle.repo_shared.specs.declared.handles.Link.{Link}
 use Rattle.repo_shared.specs.Seats.{HasTold}

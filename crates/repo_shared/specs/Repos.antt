@@ -1,12 +1,8 @@
 -- What clauses read of a shared repository.
-use Rattle.std.specs.Prelude.{◌≡◌, ℕ, List, [], Option}
+use Rattle.std.specs.Prelude.{ℕ, List}
 use Rattle.atomic_table.specs.Seated.{TableId}
-use Rattle.atomic_table.specs.declared.owned.Table.{Table}
-use Rattle.atomic_table.specs.declared.shared.Seat.{Seat}
 use Rattle.repo_shared.specs.declared.board.Entry.{Entry}
-use Rattle.repo_shared.specs.declared.board.Knowledge.{Knowledge}
 use Rattle.repo_shared.specs.declared.handles.SharedRepo.{SharedRepo}
-use Rattle.repo_shared.specs.Rule.{opener}
 
 module _ {K : Type 0} where
   abbrev pub table_of : SharedRepo K → TableId

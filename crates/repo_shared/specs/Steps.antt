@@ -1,6 +1,6 @@
 -- What each kind of step on the table of a shared repository tells its seat. A step is made by a
 -- seat m, which is m' afterwards; n is the number that it found, or that it stored.
-use Rattle.std.specs.Prelude.{◌≡◌, ◌≢◌, ℕ, ◌+◌, ◌-◌, ◌<◌, true, false, ltb, cond, length, take, drop, List, [], ◌∷◌, ◌++◌, Option, Some, None}
+use Rattle.std.specs.Prelude.{◌≡◌, ◌≢◌, ℕ, ◌+◌, ◌-◌, true, false, ltb, cond, length, take, drop, List, [], ◌∷◌, ◌++◌, Option, Some, None}
 use Rattle.atomic_table.specs.Table.{Me, Step, rest}
 use Rattle.key_elements.specs.declared.element.Element.{Element}
 use Rattle.repo_shared.specs.declared.shelf.Shelf.{Shelf}

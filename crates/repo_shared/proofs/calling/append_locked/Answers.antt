@@ -1,4 +1,4 @@
-use Rattle.std.proofs.Common.{◌≡◌, Ok, Err, ap, sym, ◌∙◌, subst}
+use Rattle.std.proofs.Common.{Err}
 use Rattle.repo_shared.proofs.Calls.{called_grown, called_appended, seen_is, refusal_told}
 use Rattle.repo_shared.proofs.calling.append_locked.Goals as goal
 

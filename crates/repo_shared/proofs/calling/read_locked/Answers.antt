@@ -1,4 +1,4 @@
-use Rattle.std.proofs.Common.{◌≡◌, Ok, Err, ap, sym, ◌∙◌, subst, inl}
+use Rattle.std.proofs.Common.{ap, ◌∙◌}
 use Rattle.repo_shared.proofs.Calls.{starts_is, had_is, called_grown, seen_is, read_told}
 use Rattle.repo_shared.proofs.calling.read_locked.Goals as goal
 

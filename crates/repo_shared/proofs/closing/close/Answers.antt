@@ -1,5 +1,3 @@
-use Rattle.std.proofs.Common.{◌≡◌, ap, ◌∙◌, sym, subst}
-use Rattle.repo_shared.specs.Closes.{AreFrontsOf}
 use Rattle.repo_shared.proofs.Meetings.{fronts_of, all_apart}
 use Rattle.repo_shared.proofs.closing.close.Goals as goal
 

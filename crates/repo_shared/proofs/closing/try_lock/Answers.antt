@@ -1,4 +1,4 @@
-use Rattle.std.proofs.Common.{rules, ◌≡◌, ◌∷◌, Some, ap, ◌∙◌, arith}
+use Rattle.std.proofs.Common.{◌≡◌, Some, ap, ◌∙◌, arith}
 use Rattle.repo_shared.proofs.Keeps.{locks, front}
 use Rattle.repo_shared.proofs.closing.try_lock.Goals as goal
 

@@ -1,5 +1,4 @@
-use Rattle.std.proofs.Common.{rules, ◌≡◌, ◌<◌, ◌∷◌, [], Some, ap, subst, sym, ◌∙◌, arith}
-use Rattle.repo_shared.specs.Rule.{elements}
+use Rattle.std.proofs.Common.{◌≡◌, Some, ap, ◌∙◌, arith}
 use Rattle.repo_shared.proofs.Keeps.{locks, front}
 use Rattle.repo_shared.proofs.locking.lock.Goals as goal
 

@@ -1,4 +1,4 @@
-use Rattle.std.proofs.Common.{rules, ◌≡◌, ◌<◌, ◌∷◌, [], Some, ap, subst, sym, ◌∙◌, arith}
+use Rattle.std.proofs.Common.{◌≡◌, ap, sym, ◌∙◌, arith}
 use Rattle.repo_shared.specs.Rule.{elements}
 use Rattle.repo_shared.proofs.Keeps.{counts, unlocks}
 use Rattle.repo_shared.proofs.locking.unlock.Goals as goal

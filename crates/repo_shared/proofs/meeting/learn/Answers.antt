@@ -1,4 +1,4 @@
-use Rattle.std.proofs.Common.{◌≡◌, ap, ◌∙◌, sym, arith}
+use Rattle.std.proofs.Common.{◌≡◌, ap, ◌∙◌, arith}
 use Rattle.repo_shared.proofs.Keeps.{tells}
 use Rattle.repo_shared.proofs.Meetings.{relearnt}
 use Rattle.repo_shared.proofs.meeting.learn.Goals as goal

@@ -1,4 +1,4 @@
-use Rattle.std.proofs.Common.{◌≡◌, ◌≢◌, ap, ◌∙◌, sym, subst}
+use Rattle.std.proofs.Common.{◌≡◌, ◌∙◌, sym, subst}
 use Rattle.repo_shared.specs.Seats.{IsHeld}
 use Rattle.repo_shared.proofs.Meetings.{met}
 use Rattle.repo_shared.proofs.meeting.meet.Goals as goal

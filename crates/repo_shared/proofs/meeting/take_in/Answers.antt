@@ -1,4 +1,4 @@
-use Rattle.std.proofs.Common.{◌≡◌, ap, ◌∙◌, sym, arith}
+use Rattle.std.proofs.Common.{◌≡◌, ap, ◌∙◌, arith}
 use Rattle.repo_shared.proofs.Keeps.{learns, counts}
 use Rattle.repo_shared.proofs.Meetings.{learnt_is}
 use Rattle.repo_shared.proofs.meeting.take_in.Goals as goal

@@ -1,4 +1,4 @@
-use Rattle.std.proofs.Common.{◌≡◌, arith}
+use Rattle.std.proofs.Common.{arith}
 use Rattle.repo_shared.specs.Repos.{table_of}
 use Rattle.repo_shared.proofs.Makings.{pair_fresh}
 use Rattle.repo_shared.proofs.tests.open_two.Goals as goal

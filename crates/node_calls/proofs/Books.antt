@@ -10,6 +10,7 @@ use Rattle.key_elements.specs.declared.element.Element.{Element}
 use Rattle.key_elements.specs.Lists.{Extends}
 use Rattle.key_ring.specs.Ring.{RingOf}
 use Rattle.ring_world.specs.declared.step.Step.{Step}
+use Rattle.ring_world.specs.declared.step.Step.TheVariants.{Want, RaiseWant, Take, Busy, Give}
 use Rattle.ring_world.specs.Course.{Course, idle, stepped, looking, led, closed, joined, drawn_by, drawn_count, rings_by, ring_count, last_of, publishes, any_publishes}
 use Rattle.ring_world.specs.Flight.{Sight}
 use Rattle.repo_keeper.specs.Store.{Store, Moved, Grows, no_calls, one_call}
@@ -264,12 +265,15 @@ pub turn-idle : (o : Option AtTurn) → o ≡ option_map (turn_after []) o
 turn-idle None = refl
 turn-idle (Some t) = refl
 
+act_none : (a : Step) → a ∷ [] ≡ [] → ⊥
+act_none a e = cc
+
 turn_outside : (x : Step) → acts_of 0 x ≡ [] → (t : AtTurn) → t ≡ turn_by x t
-turn_outside (Want n) e t = cc
-turn_outside (RaiseWant n) e t = cc
-turn_outside Take e t = cc
-turn_outside (Busy h) e t = cc
-turn_outside Give e t = cc
+turn_outside (Want n) e t = absurd (act_none _ e)
+turn_outside (RaiseWant n) e t = absurd (act_none _ e)
+turn_outside Take e t = absurd (act_none _ e)
+turn_outside (Busy h) e t = absurd (act_none _ e)
+turn_outside Give e t = absurd (act_none _ e)
 turn_outside _ e t = refl
 
 outside_turn : (x : Step) → acts_of 0 x ≡ [] → (o : Option AtTurn) → o ≡ option_map (turn_after (x ∷ [])) o
@@ -277,7 +281,7 @@ outside_turn x e None = refl
 outside_turn x e (Some t) = ap (λ (u : AtTurn). Some u) (turn_outside x e t)
 
 outside_named : (x : Step) → acts_of 0 x ≡ [] → Named x
-outside_named (Busy h) e = cc
+outside_named (Busy h) e = absurd (act_none _ e)
 outside_named _ e = tt
 
 module _ (x : Step) (bytes : List ℕ) (steps steps' : List Step) (h : HostState) (st st' : Store) (w w' : DrawState) where

@@ -88,12 +88,12 @@ module _ (c : Call) (r : RingOf) (old new : Option AtTurn) where
   keeping (Apart s at) is e named turn stale = cc
 
 -- what a flight of one more try published isn't stale
-again_publishes : (c : Call) (s tail : List Step) (t : HolderPath) (r : RingOf) → IsSecond c t → turn_end c t ≡ Ok r → any_publishes ((s ++ Take ∷ (turn_course c t).steps ++ Give ∷ []) ++ tail) ≡ true
+again_publishes : (c : Call) (s tail : List Step) (t : HolderPath) (r : RingOf) → IsSecond c t → turn_end c t ≡ Ok r → any_publishes ((s ++ (Take ∷ ((turn_course c t).steps ++ Give ∷ []))) ++ tail) ≡ true
 again_publishes c s tail t r is e =
-    let turn = (turn_course c t).steps in
+    let turn : List Step = (turn_course c t).steps in
     let flown : any_publishes (turn ++ Give ∷ []) ≡ true = any_publishes-append turn (Give ∷ []) ∙ ap (λ b. b || false) (flight_publishes c t r is e) in
-    let front : any_publishes (s ++ Take ∷ turn ++ Give ∷ []) ≡ true = any_publishes-append s (Take ∷ turn ++ Give ∷ []) ∙ ap (λ b. any_publishes s || b) flown ∙ or_true (any_publishes s) in
-    any_publishes-append (s ++ Take ∷ turn ++ Give ∷ []) tail ∙ ap (λ b. b || any_publishes tail) front
+    let front : any_publishes (s ++ (Take ∷ (turn ++ Give ∷ []))) ≡ true = any_publishes-append s (Take ∷ (turn ++ Give ∷ [])) ∙ ap (λ b. any_publishes s || b) flown ∙ or_true (any_publishes s) in
+    any_publishes-append (s ++ (Take ∷ (turn ++ Give ∷ []))) tail ∙ ap (λ b. b || any_publishes tail) front
 
 -- a call that is answered by a ring that isn't enough found the turn taken
 pub found_taken : (c : Call) (r : RingOf) (own : List Element) (d : Course) (old new : Option AtTurn) → CallPath c (Ok r) own d → AreNamed d.steps → new ≡ option_map (turn_after d.steps) old → IsStale c.terms.now (target c) d.steps r → FoundTaken d.steps new

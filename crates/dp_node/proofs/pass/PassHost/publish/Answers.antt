@@ -1,6 +1,7 @@
 use Rattle.std.proofs.Common.{◌++◌, ◌∷◌, [], ◌∙◌, length, sym, ap, None, Some}
 use Rattle.ring_world.specs.declared.step.Step.TheVariants.{Publish}
 use Rattle.node_calls.specs.HostState.{latest}
+use Rattle.dp_node.specs.Passes.{at_turn}
 use Rattle.dp_node.proofs.Leading.{in_hand, floor_publish, line_publish, led_publish, led_still}
 use Rattle.dp_node.proofs.pass.PassHost.publish.Goals as goal
 

@@ -29,8 +29,8 @@ fn leaves_at(history: &ElementList, list: &ElementList) -> Option<u64>
     }
 }
 
-/// Whether the list of each trace is a front of the history. Else the least trace is told whose list
-/// isn't. It takes no memory.
+/// Accepts traces whose lists are fronts of the history, and else tells the first whose list isn't.
+/// It takes no memory.
 pub fn audit(history: &ElementList, traces: &[Trace]) -> Result<(), AuditFork>
     ensures ok { IsOk result ↔ AreFronts history.now traces.now }
     ensures fork { IfErr result (IsFork history.now traces.now) }

@@ -1,4 +1,4 @@
-//! Sessions that ran over one history: an audit of their traces tells the first that didn't.
+//! A cluster: sessions over one history. An audit of their traces tells the first that used another.
 #![tactic(auto)]
 
 mod auditing;

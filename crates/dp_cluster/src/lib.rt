@@ -1,4 +1,4 @@
-//! A cluster: sessions over one history. An audit of their traces tells the first that used another.
+//! A cluster: sessions over one history. An audit of their traces tells the first that left it.
 #![tactic(auto)]
 
 mod auditing;

@@ -14,7 +14,7 @@ use default_key::Options;
 use dp_base::{Clock, Draw, LAST, Sink, Source};
 use dp_encryptor::HeaderTable;
 use dp_node::{OpenRefused, Solo};
-use dp_session::{AppName, MAX_APP, Setup, Status, serve_session};
+use dp_session::{AppName, MAX_APP, NoGate, Setup, Status, serve_session};
 use repo_keeper::Repo;
 use std::alloc::Global;
 
@@ -96,6 +96,8 @@ pub(crate) fn pipe<R: Repo<()>, D: Draw, C: Clock, I: Source, O: Sink>(
         repo,
         draw,
         clock,
+        &NoGate,
+        0,
         &setup,
         &headers,
         input,

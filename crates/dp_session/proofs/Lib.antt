@@ -11,3 +11,4 @@ pub mod Responses
 pub mod Shut
 pub mod Unsealed
 pub mod Loans
+pub mod Looks

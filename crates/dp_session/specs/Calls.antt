@@ -15,7 +15,7 @@ use Rattle.dp_protector.specs.Opening.{IsDueAnswer, opened, opening}
 use Rattle.dp_protector.specs.Protect.{Drew, Sealed, draw_len, protects}
 use Rattle.dp_session.specs.declared.calls.Answered.{Answered}
 use Rattle.dp_session.specs.declared.calls.CallRefused.{CallRefused}
-use Rattle.dp_session.specs.declared.calls.CallRefused.TheVariants.{Node, Protect, Unprotect}
+use Rattle.dp_session.specs.declared.calls.CallRefused.TheVariants.{Node, Due, Protect, Unprotect}
 
 -- the ring is that of the answer
 abbrev pub IsRingOf : {A : Type 0} → RingOf → Answered A → Type 0
@@ -39,6 +39,7 @@ Protects chain plain r (Ok a) old new =
     (ring : RingOf) × (r ≡ Ok ring) × IsRingOf ring a
     × Sealed (draw_len ring) (λ drawn. protects ring chain drawn plain) old new a.value.items
 Protects chain plain r (Err (Node why)) old new = (r ≡ Err (refusal why)) × (new ≡ old)
+Protects chain plain r (Err (Due why)) old new = ⊥
 Protects chain plain r (Err (Protect front why)) old new =
     (ring : RingOf) × (r ≡ Ok ring) × (front ≡ length ring.list) × IsUnsealed ring plain why old new
 Protects chain plain r (Err (Unprotect front why)) old new = ⊥
@@ -54,6 +55,7 @@ Unprotects chain payload allow r (Ok a) =
     (ring : RingOf) × (r ≡ Ok ring) × IsRingOf ring a
     × IsDueAnswer opening (told (Ok a)) (opened ring chain payload allow)
 Unprotects chain payload allow r (Err (Node why)) = r ≡ Err (refusal why)
+Unprotects chain payload allow r (Err (Due why)) = ⊥
 Unprotects chain payload allow r (Err (Protect front why)) = ⊥
 Unprotects chain payload allow r (Err (Unprotect front why)) =
     (ring : RingOf) × (r ≡ Ok ring) × (front ≡ length ring.list)

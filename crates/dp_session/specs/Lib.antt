@@ -5,6 +5,7 @@ pub mod Serving
 pub mod Responding
 pub mod Sought
 pub mod Calls
+pub mod CallsNow
 pub mod Frames
 pub mod Session
 pub mod Loans

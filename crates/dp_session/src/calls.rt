@@ -1,6 +1,6 @@
 //! Calls that protect and unprotect at a node: a ring is found by a lawful path, and answers.
 
-ghost use Rattle.std.specs.Prelude.{◌≡◌, ◌<◌, ◌≤◌, ◌^◌, false, [], length, None, Result};
+ghost use Rattle.std.specs.Prelude.{◌≡◌, ◌<◌, ◌≤◌, ◌^◌, false, [], length, None, Result, Ok};
 ghost use Rattle.dp_base.specs.declared.ticks.TheConstants.{LAST};
 ghost use Rattle.dp_base.specs.Draws.{DrawState};
 ghost use Rattle.key_elements.specs.Lists.{Extends};
@@ -17,7 +17,7 @@ use dp_base::Draw;
 use dp_encryptor::HeaderTable;
 use dp_node::{At, Host, HostView, NodeError, ring_for};
 use dp_protector::{Opened, ProtectRefused, UnprotectRefused, protect_with, unprotect_with};
-use key_ring::Ring;
+use key_ring::{Ring, Why};
 use purpose_chain::Chain;
 use repo_keeper::Repo;
 use ring_world::StepList;
@@ -39,6 +39,9 @@ pub enum CallRefused {
     /// No ring was found.
     #[error("{0}")]
     Node(NodeError),
+    /// The ring of the one look of a call that doesn't wait is due, or its list is too short.
+    #[error("the ring is due")]
+    Due(Why),
     /// By the ring nothing is protected.
     #[error("{why}")]
     Protect { front: u64, why: ProtectRefused },
@@ -59,6 +62,48 @@ fn by<T>(ring: &Ring, value: T) -> Answered<T>
         front: ring.list().len(),
         made_at: ring.made_at(),
         value,
+    }
+}
+
+/// The payload of a plaintext under the default key of the ring, or why there is none.
+pub(crate) fn sealed_by<D: Draw>(
+    alloc: Global,
+    ring: &Ring,
+    headers: &HeaderTable,
+    chain: &Chain,
+    draw: &mut D,
+    plain: &[u8],
+) -> Result<Answered<Vec<u8>>, CallRefused>
+    ensures { Protects chain.now plain.now (Ok ring.now) result (D.draws draw.old)
+        (D.draws draw.new) }
+{
+    match protect_with(alloc, ring, headers, chain, draw, plain) {
+        Ok(payload) => Ok(by(ring, payload)),
+        Err(why) => Err(CallRefused::Protect {
+            front: ring.list().len(),
+            why,
+        }),
+    }
+}
+
+/// What a payload opens to by the ring, or why it doesn't.
+pub(crate) fn opened_by(
+    alloc: Global,
+    ring: &Ring,
+    headers: &HeaderTable,
+    chain: &Chain,
+    payload: &[u8],
+    allow_revoked: bool,
+) -> Result<Answered<Opened>, CallRefused>
+    requires { length payload.now < 2 ^ 32 }
+    ensures { Unprotects chain.now payload.now allow_revoked (Ok ring.now) result }
+{
+    match unprotect_with(alloc, ring, headers, chain, payload, allow_revoked) {
+        Ok(opened) => Ok(by(ring, opened)),
+        Err(why) => Err(CallRefused::Unprotect {
+            front: ring.list().len(),
+            why,
+        }),
     }
 }
 
@@ -88,16 +133,9 @@ pub fn protect<W, H: Host<W>, R: Repo<W>, D: Draw>(
     ensures free { (H.state host.new).held ≡ false }
     ensures grows { Extends (H.state host.new).own (H.state host.old).own }
 {
-    let ring = match ring_for(w, alloc, host, repo, draw, at, None, steps) {
-        Ok(ring) => ring,
-        Err(why) => return Err(CallRefused::Node(why)),
-    };
-    match protect_with(alloc, &ring, headers, chain, draw, plain) {
-        Ok(payload) => Ok(by(&ring, payload)),
-        Err(why) => Err(CallRefused::Protect {
-            front: ring.list().len(),
-            why,
-        }),
+    match ring_for(w, alloc, host, repo, draw, at, None, steps) {
+        Ok(ring) => sealed_by(alloc, &ring, headers, chain, draw, plain),
+        Err(why) => Err(CallRefused::Node(why)),
     }
 }
 
@@ -131,15 +169,8 @@ pub fn unprotect<W, H: Host<W>, R: Repo<W>, D: Draw>(
     ensures grows { Extends (H.state host.new).own (H.state host.old).own }
 {
     let missing = named_in(payload);
-    let ring = match ring_for(w, alloc, host, repo, draw, at, missing, steps) {
-        Ok(ring) => ring,
-        Err(why) => return Err(CallRefused::Node(why)),
-    };
-    match unprotect_with(alloc, &ring, headers, chain, payload, allow_revoked) {
-        Ok(opened) => Ok(by(&ring, opened)),
-        Err(why) => Err(CallRefused::Unprotect {
-            front: ring.list().len(),
-            why,
-        }),
+    match ring_for(w, alloc, host, repo, draw, at, missing, steps) {
+        Ok(ring) => opened_by(alloc, &ring, headers, chain, payload, allow_revoked),
+        Err(why) => Err(CallRefused::Node(why)),
     }
 }

@@ -7,8 +7,8 @@ use Rattle.key_elements.specs.Lists.{Extends, Agree}
 use Rattle.key_ring.specs.Ring.{RingOf, ExtendsRing}
 use Rattle.swap_cell.specs.Rule.{Each, InLine}
 use Rattle.dp_node.specs.Floor.{longest}
-use Rattle.dp_node.proofs.Books.{IsFrontOf-trans, IsFrontOf-le}
-use Rattle.dp_node.proofs.Courses.{longer_extends_own, longer_extends_list}
+use Rattle.node_calls.proofs.Books.{IsFrontOf-trans, IsFrontOf-le}
+use Rattle.node_calls.proofs.Courses.{longer_extends_own, longer_extends_list}
 
 pub each_map : {A : Type 0} (P Q : A → Type 0) (xs : List A) → ((x : A) → P x → Q x) → Each P xs → Each Q xs
 each_map P Q [] f h = tt

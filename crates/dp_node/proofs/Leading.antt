@@ -8,7 +8,7 @@ use Rattle.swap_cell.specs.declared.handles.Viewer.{Viewer}
 use Rattle.swap_cell.specs.Rule.{Each, InLine}
 use Rattle.swap_cell.specs.Cells.{setter_cell, viewer_cell, last_set, set_before, known, told_values, HasLooked, HasLearnt, HasSet, StaysSet}
 use Rattle.dp_node.specs.Floor.{longest, floor_of, IsLedBy}
-use Rattle.dp_node.proofs.Books.{IsFrontOf-trans, IsFrontOf-refl}
+use Rattle.node_calls.proofs.Books.{IsFrontOf-trans, IsFrontOf-refl}
 use Rattle.dp_node.proofs.Floors.{looked_floor, extends_longest, learnt_floor, published_floor, each_all, all_each, each_map}
 
 some_one : {A : Type 0} (a b : A) → Some a ≡ Some b → a ≡ b

@@ -1,12 +1,4 @@
-pub mod HostState
-pub mod Sight
-pub mod Books
-pub mod Gather
-pub mod Calls
-pub mod Places
-pub mod Opening
-pub mod Lent
 pub mod Floor
 pub mod Passes
+pub mod SoloOpening
 pub mod NodeOpening
-pub mod Now

@@ -9,9 +9,9 @@ use Rattle.swap_cell.specs.declared.handles.Viewer.{Viewer}
 use Rattle.swap_cell.specs.Cells.{setter_cell, viewer_cell, known}
 use Rattle.flight_turn.specs.declared.turn.Turn.{Turn}
 use Rattle.flight_turn.specs.Seats.{turn_mark}
-use Rattle.dp_node.specs.declared.host.NodeFacts.{NodeFacts}
+use Rattle.node_calls.specs.declared.host.NodeFacts.{NodeFacts}
 use Rattle.dp_node.specs.declared.pass.Pass.{Pass}
-use Rattle.dp_node.specs.HostState.{opened_over}
+use Rattle.node_calls.specs.HostState.{opened_over}
 use Rattle.dp_node.specs.Passes.{state_of}
 
 -- the first pass of the node
@@ -25,7 +25,7 @@ IsEndOf turn r v = (turn_mark setter_cell turn ≡ viewer_cell v) × (known v �
 -- the pass, which stands at the place i, of a node of n passes that was opened over the ring
 abbrev pub IsOpened : NodeFacts → RingOf → ℕ → ℕ → Pass → Type 0
 IsOpened facts r n i p =
-    (p.notes.facts.pass + i + 1 ≡ n) × (state_of p ≡ opened_over (record facts { pass = p.notes.facts.pass }) r)
+    (p.notes.facts.pass + i + 1 ≡ n) × (state_of p ≡ opened_over (record facts { pass = p.notes.facts.pass }) (state_of p).turn r)
 
 -- the passes of a node after its opening, or some of them, the last one first
 abbrev pub AreOpened : NodeFacts → RingOf → ℕ → List Pass → Type 0

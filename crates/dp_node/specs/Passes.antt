@@ -1,14 +1,18 @@
 -- A pass of a node of many threads, as the clauses of a host see it.
-use Rattle.std.specs.Prelude.{◌≡◌, ◌+◌, Option, None, is_some, option_map, IfSome}
+use Rattle.std.specs.Prelude.{ℕ, Option, Some, None, is_some, option_map, IfSome}
 use Rattle.key_elements.specs.Lists.{Extends}
 use Rattle.key_ring.specs.Ring.{RingOf}
 use Rattle.swap_cell.specs.declared.handles.Setter.{Setter}
 use Rattle.swap_cell.specs.Cells.{last_set}
 use Rattle.flight_turn.specs.declared.seat.TurnSeat.{TurnSeat}
-use Rattle.flight_turn.specs.Seats.{steps}
+use Rattle.flight_turn.specs.Seats.{steps, read, recorded}
 use Rattle.dp_node.specs.declared.pass.Pass.{Pass}
-use Rattle.dp_node.specs.HostState.{HostState}
+use Rattle.node_calls.specs.HostState.{HostState, AtTurn}
 use Rattle.dp_node.specs.Floor.{floor_of}
+
+-- the steps that a seat made at the turn
+abbrev pub at_turn : TurnSeat (Setter RingOf) → AtTurn
+at_turn seat = record { steps = steps seat; read = read seat }
 
 abbrev pub state_of : Pass → HostState
 state_of p = record {
@@ -19,19 +23,16 @@ state_of p = record {
   floor = floor_of p.viewer;
   acts = p.notes.acts;
   single = None;
+  turn = Some (at_turn p.seat);
 }
 
 -- the ring that the setter in the pass's hand set last
 abbrev pub set_last : Pass → Option RingOf
 set_last p = option_map last_set p.setter
 
--- its seat, which knows what its last steps at the turn found
-abbrev pub seat_of : Pass → TurnSeat (Setter RingOf)
-seat_of p = p.seat
-
--- the pass made one step at the turn
-abbrev pub HasStepped : Pass → Pass → Type 0
-HasStepped old new = steps (seat_of new) ≡ steps (seat_of old) + 1
+-- the want number as the pass's last step on it left it
+abbrev pub want_recorded : Pass → ℕ
+want_recorded p = recorded p.seat
 
 -- while the turn is held, the floor extends the list that was published last at the node
 abbrev pub LeadsNode : Pass → Type 0

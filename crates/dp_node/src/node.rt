@@ -5,16 +5,15 @@ ghost use Rattle.std.specs.Arc.{arc_value};
 ghost use Rattle.dp_base.specs.declared.ticks.TheConstants.{LAST};
 ghost use Rattle.swap_cell.specs.Cells.{setter_cell};
 ghost use Rattle.flight_turn.specs.Seats.{IsSeatOf, AreNew};
-ghost use Rattle.dp_node.specs.Opening.{Opens};
+ghost use Rattle.node_calls.specs.Opening.{Opens};
 ghost use Rattle.dp_node.specs.NodeOpening.{IsEndOf, IsNode, ArePasses, facts_of};
 
-use crate::host::NodeFacts;
-use crate::open::{OpenRefused, first_ring};
 use crate::pass::Pass;
 use default_key::Options;
 use dp_base::{Draw, Grows, Memory};
 use flight_turn::{Turn, TurnSeat};
 use key_ring::Ring;
+use node_calls::{NodeFacts, OpenRefused, first_ring};
 use repo_keeper::Repo;
 use std::alloc::Global;
 use std::sync::{Arc, Wait};

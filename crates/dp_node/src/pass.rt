@@ -9,14 +9,11 @@ ghost use Rattle.swap_cell.specs.Cells.{setter_cell, viewer_cell};
 ghost use Rattle.flight_turn.specs.Seats.{IsSeatOf, holds, number, turn_mark};
 ghost use Rattle.dp_node.specs.Floor.{floor_of, IsLedBy};
 
-use crate::acts::Acts;
-use crate::error::ToldRefused;
-use crate::host::{Host, HostView, NodeFacts};
-use crate::sight::{fork, look_step};
 use dp_base::{Grows, Memory};
 use flight_turn::{Busy, Turn, TurnSeat};
 use key_elements::ElementList;
 use key_ring::Ring;
+use node_calls::{Acts, Host, HostView, NodeFacts, ToldRefused, fork, look_step};
 use ring_world::Step;
 use std::alloc::Global;
 use std::snapshot::Snapshot;
@@ -52,10 +49,10 @@ pub struct Pass {
 }
 
 impl Pass {
-    ghost use Rattle.std.specs.Prelude.{IfOk, false, ◌∷◌, []};
+    ghost use Rattle.std.specs.Prelude.{IfOk, Some, false, ◌∷◌, []};
     ghost use Rattle.swap_cell.specs.Cells.{known};
-    ghost use Rattle.dp_node.specs.HostState.{opened_over};
-    ghost use Rattle.dp_node.specs.Passes.{state_of, set_last, LeadsNode};
+    ghost use Rattle.node_calls.specs.HostState.{opened_over};
+    ghost use Rattle.dp_node.specs.Passes.{state_of, at_turn, set_last, LeadsNode};
 
     /// Each later look extends the ring last looked at or published, and, while the turn is held,
     /// the ring last published at the node. Nothing is done.
@@ -77,7 +74,7 @@ impl Pass {
         requires seat { IsSeatOf setter_cell (arc_value turn.now) seat }
         requires free { holds seat ≡ false }
         requires number { number seat ≡ facts.pass + 1 }
-        ensures { IfOk result (λ pass. state_of pass ≡ opened_over facts ring.now) }
+        ensures { IfOk result (λ pass. state_of pass ≡ opened_over facts (Some (at_turn seat)) ring.now) }
     {
         Ok(Pass {
             notes: Notes {
@@ -95,11 +92,10 @@ impl Pass {
 }
 
 impl HostView for Pass {
-    ghost use Rattle.std.specs.Prelude.{◌≢◌, ◌<◌, ◌≤◌, IfErr, IfOk, false};
+    ghost use Rattle.std.specs.Prelude.{◌≢◌, ◌+◌, ◌≤◌, IfErr, false};
     ghost use Rattle.ring_world.specs.declared.step.Step.TheVariants.{Want};
-    ghost use Rattle.flight_turn.specs.Seats.{read, recorded};
-    ghost use Rattle.dp_node.specs.HostState.{acted, raised, MayWant, Takes};
-    ghost use Rattle.dp_node.specs.Passes.{state_of, seat_of, HasStepped};
+    ghost use Rattle.node_calls.specs.HostState.{acted, raised, MayWant, Takes};
+    ghost use Rattle.dp_node.specs.Passes.{state_of, want_recorded};
 
     ghost state = { state_of };
 
@@ -139,8 +135,7 @@ impl HostView for Pass {
     fn want(&mut self) -> u64
         ensures number { MayWant result (state_of self.old) }
         ensures act { state_of self.new ≡ acted (Want result) (state_of self.old) }
-        ensures step { HasStepped self.old self.new }
-        ensures word { result ≡ recorded (seat_of self.new) }
+        ensures word { result ≡ want_recorded self.new }
     {
         let n = self.turn.want(&mut self.seat);
         self.notes.acts.push(Step::Want { n });
@@ -149,8 +144,7 @@ impl HostView for Pass {
 
     fn raise_want(&mut self, n: u64)
         ensures act { state_of self.new ≡ raised n (state_of self.old) }
-        ensures step { HasStepped self.old self.new }
-        ensures word { n ≤ recorded (seat_of self.new) }
+        ensures word { n ≤ want_recorded self.new }
     {
         self.turn.raise_want(&mut self.seat, n);
         self.notes.acts.push(Step::RaiseWant { n });
@@ -159,10 +153,7 @@ impl HostView for Pass {
     fn try_take(&mut self) -> Result<(), Busy>
         requires { (state_of self.old).held ≡ false }
         ensures takes { Takes result (state_of self.old) (state_of self.new) }
-        ensures step { HasStepped self.old self.new }
-        ensures free { IfOk result (λ _. read (seat_of self.new) ≡ 0) }
-        ensures busy { IfErr result (λ b. (read (seat_of self.new) ≡ b.holder) × (0 < b.holder)) }
-        ensures another { IfErr result (λ b. b.holder ≢ number (seat_of self.new)) }
+        ensures another { IfErr result (λ b. b.holder ≢ (state_of self.new).facts.pass + 1) }
     {
         match self.turn.try_take(&mut self.seat) {
             Ok(mut setter) => {
@@ -194,7 +185,7 @@ impl HostView for Pass {
 
 impl<W: Wait> Host<W> for Pass {
     ghost use Rattle.std.specs.Prelude.{OnOk, OnErr, true};
-    ghost use Rattle.dp_node.specs.HostState.{published};
+    ghost use Rattle.node_calls.specs.HostState.{published};
     ghost use Rattle.dp_node.specs.Passes.{state_of, set_last};
 
     fn publish(&mut self, w: &mut W, _alloc: Global, ring: Ring) -> Result<(), Memory>

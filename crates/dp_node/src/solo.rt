@@ -1,16 +1,18 @@
 //! The pass of a node of one thread.
 
-ghost use Rattle.std.specs.Prelude.{◌≡◌, IfOk};
-ghost use Rattle.dp_node.specs.HostState.{solo_of};
+ghost use Rattle.std.specs.Prelude.{◌≡◌, ◌≤◌, IfOk};
+ghost use Rattle.dp_base.specs.declared.ticks.TheConstants.{LAST};
+ghost use Rattle.node_calls.specs.Opening.{Opens};
+ghost use Rattle.dp_node.specs.SoloOpening.{IsSolo, first_facts, solo_of};
 
-use crate::acts::Acts;
-use crate::error::{Fork, ToldRefused};
-use crate::host::{Host, HostView, NodeFacts};
-use crate::sight::{fork, look_step};
-use dp_base::{Grows, Memory};
-use flight_turn::Busy;
+use default_key::Options;
+use dp_base::{Draw, Grows, Memory};
 use key_elements::ElementList;
 use key_ring::Ring;
+use node_calls::{
+    Acts, Busy, Host, HostView, NodeFacts, OpenRefused, ToldRefused, first_ring, fork, look_step,
+};
+use repo_keeper::Repo;
 use ring_world::Step;
 use std::alloc::Global;
 use std::marker::Model;
@@ -27,8 +29,8 @@ pub struct Solo {
 }
 
 impl Model for Solo {
-    ghost use Rattle.std.specs.Prelude.{Some};
-    ghost use Rattle.dp_node.specs.HostState.{HostState};
+    ghost use Rattle.std.specs.Prelude.{Some, None};
+    ghost use Rattle.node_calls.specs.HostState.{HostState};
 
     ghost Value = { HostState };
 
@@ -40,12 +42,37 @@ impl Model for Solo {
       floor = s.ring.list;
       acts = s.acts;
       single = Some (record { want = s.want; ring = s.ring });
+      turn = None;
     } };
 }
 
 impl Solo {
+    /// Opens a node at the moment, in ticks, over all that the repository holds. Where a key is due
+    /// and keys are made automatically, one is made; where the repository has no place for it, the
+    /// ring is made without it.
+    pub fn open<R: Repo<()>, D: Draw>(
+        alloc: Global,
+        repo: &mut R,
+        draw: &mut D,
+        now: u64,
+        options: Options,
+    ) -> Result<Solo, OpenRefused>
+        requires moment { now ≤ LAST }
+        ensures opened { Opens now options (IsSolo (first_facts now options)) result
+            (R.store repo.old) (R.store repo.new) (D.draws draw.old) (D.draws draw.new) }
+    {
+        let ring = first_ring(&mut (), alloc, repo, draw, now, options)?;
+        let facts = NodeFacts {
+            node: 0,
+            pass: 0,
+            opened_at: now,
+            options,
+        };
+        Ok(Solo::over(facts, ring)?)
+    }
+
     // The pass of a node over a ring whose list it has seen.
-    pub(crate) fn over(facts: NodeFacts, ring: Ring) -> Result<Solo, Memory>
+    fn over(facts: NodeFacts, ring: Ring) -> Result<Solo, Memory>
         ensures { IfOk result (λ solo. solo ≡ solo_of facts ring) }
     {
         Ok(Solo {

@@ -11,12 +11,13 @@ use Rattle.ring_world.specs.declared.step.Step.{Step}
 use Rattle.ring_world.specs.Course.{Course}
 use Rattle.ring_world.specs.Flight.{Refusal, Terms, Gathers, gather_course, gather_end, whole, cut, Flown, Broken, NoRead, ShortRead, NoDraw, NoKeyDraw, NoAppend, ShortAppend}
 use Rattle.ring_world.specs.Flight as flight
-use Rattle.dp_node.specs.declared.open.OpenRefused.{OpenRefused}
-use Rattle.dp_node.specs.declared.open.OpenRefused.TheVariants as refused
-use Rattle.dp_node.specs.HostState.{HostState}
-use Rattle.dp_node.specs.Books.{books, Does, tally, draws_failed}
-use Rattle.dp_node.specs.Calls.{terms}
-use Rattle.dp_node.specs.Opening.{Opens, IsSolo, first_facts}
+use Rattle.node_calls.specs.declared.open.OpenRefused.{OpenRefused}
+use Rattle.node_calls.specs.declared.open.OpenRefused.TheVariants as refused
+use Rattle.node_calls.specs.HostState.{HostState}
+use Rattle.node_calls.specs.Books.{books, Does, tally, draws_failed}
+use Rattle.node_calls.specs.Calls.{terms}
+use Rattle.node_calls.specs.Opening.{Opens}
+use Rattle.dp_node.specs.SoloOpening.{IsSolo, first_facts}
 use Rattle.dp_session.specs.declared.status.Status.TheVariants as status
 use Rattle.dp_server.specs.Pipe.{AreStandard, around, IsOpening, status_of}
 

@@ -1,6 +1,6 @@
 -- A run whose node was opened, and whose session wasn't begun for want of memory.
 use Rattle.std.proofs.Common.{◌≡◌, ℕ, List, [], None, refl}
-use Rattle.dp_node.specs.HostState.{HostState}
+use Rattle.node_calls.specs.HostState.{HostState}
 use Rattle.dp_session.specs.declared.status.Status.TheVariants as status
 use Rattle.dp_session.specs.Serving.{state}
 use Rattle.dp_session.specs.Session.{outside}

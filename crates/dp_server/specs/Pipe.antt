@@ -11,12 +11,13 @@ use Rattle.key_ring.specs.Ring.{RingOf}
 use Rattle.repo_keeper.specs.Store.{Store}
 use Rattle.ring_world.specs.declared.step.Step.{Step}
 use Rattle.ring_world.specs.Flight.{Refusal, Gathers}
-use Rattle.dp_node.specs.declared.open.OpenRefused.{OpenRefused}
-use Rattle.dp_node.specs.declared.open.OpenRefused.TheVariants as refused
-use Rattle.dp_node.specs.HostState.{HostState}
-use Rattle.dp_node.specs.Books.{books, Does}
-use Rattle.dp_node.specs.Calls.{terms}
-use Rattle.dp_node.specs.Opening.{OpeningGives, IsSolo, first_facts}
+use Rattle.node_calls.specs.declared.open.OpenRefused.{OpenRefused}
+use Rattle.node_calls.specs.declared.open.OpenRefused.TheVariants as refused
+use Rattle.node_calls.specs.HostState.{HostState}
+use Rattle.node_calls.specs.Books.{books, Does}
+use Rattle.node_calls.specs.Calls.{terms}
+use Rattle.node_calls.specs.Opening.{OpeningGives}
+use Rattle.dp_node.specs.SoloOpening.{IsSolo, first_facts}
 use Rattle.dp_session.specs.declared.status.Status.{Status}
 use Rattle.dp_session.specs.declared.status.Status.TheVariants as status
 use Rattle.dp_session.specs.Fresh.{AreFresh, AreCountedBy}

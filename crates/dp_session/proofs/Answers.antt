@@ -18,13 +18,13 @@ use Rattle.ring_world.specs.Course.{Course}
 use Rattle.ring_world.specs.Flight.{Refusal}
 use Rattle.ring_world.specs.Way.{CallPath}
 use Rattle.ring_world.specs.Placing.{Asked, PlacePath}
-use Rattle.dp_node.specs.declared.error.NodeError.{NodeError}
-use Rattle.dp_node.specs.declared.error.NodeError.TheVariants as errors
-use Rattle.dp_node.specs.HostState.{HostState}
-use Rattle.dp_node.specs.Books.{Books, books, Does}
-use Rattle.dp_node.specs.Calls.{call}
-use Rattle.dp_node.specs.Gather.{refusal}
-use Rattle.dp_node.specs.Places.{asked, EndsWithKey}
+use Rattle.node_calls.specs.declared.error.NodeError.{NodeError}
+use Rattle.node_calls.specs.declared.error.NodeError.TheVariants as errors
+use Rattle.node_calls.specs.HostState.{HostState}
+use Rattle.node_calls.specs.Books.{Books, books, Does}
+use Rattle.node_calls.specs.Calls.{call}
+use Rattle.node_calls.specs.Gather.{refusal}
+use Rattle.node_calls.specs.Places.{asked, EndsWithKey}
 use Rattle.dp_wire.specs.declared.reply.Reply.{Reply}
 use Rattle.dp_wire.specs.declared.reply.Reply.TheVariants as replies
 use Rattle.dp_wire.specs.declared.request.BadRequest.{BadRequest}

@@ -27,9 +27,9 @@ use Rattle.ring_world.specs.Way.{Way, Comes, Fails, IsWay, CallPath, way_course,
 use Rattle.ring_world.specs.Placing as placing
 use Rattle.ring_world.specs.Placing.{Asked, Placing, Placed, Undrawn, Unplaced, Overfull, Receded, PlacePath, place_course, place_end}
 use Rattle.repo_keeper.specs.Store.{Store}
-use Rattle.dp_node.proofs.Books.{drawn_count-append}
-use Rattle.dp_node.specs.HostState.{HostState}
-use Rattle.dp_node.specs.Books.{Books, books, Does, draws_failed}
+use Rattle.node_calls.proofs.Books.{drawn_count-append}
+use Rattle.node_calls.specs.HostState.{HostState}
+use Rattle.node_calls.specs.Books.{Books, books, Does, draws_failed}
 use Rattle.dp_wire.specs.declared.request.BadRequest.{BadRequest}
 use Rattle.dp_wire.specs.Request.{Request, Ring, Roll, Revoke, RevokeBefore, Protect, Unprotect, ProtectText, UnprotectText, ProtectTimed, UnprotectTimed}
 use Rattle.dp_session.specs.declared.response.Response.{Response}

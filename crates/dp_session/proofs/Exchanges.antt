@@ -8,7 +8,7 @@ use Rattle.dp_base.specs.Clocks.{ShowsMoment}
 use Rattle.dp_base.specs.Draws.{DrawState}
 use Rattle.key_elements.specs.declared.element.Element.{Element}
 use Rattle.repo_keeper.specs.Store.{Store}
-use Rattle.dp_node.specs.HostState.{HostState}
+use Rattle.node_calls.specs.HostState.{HostState}
 use Rattle.dp_wire.specs.Frame.{frame, IsBodyLen}
 use Rattle.dp_session.specs.declared.serving.Exchange.{Exchange}
 use Rattle.dp_session.specs.declared.trace.Entry.{Entry}

@@ -21,13 +21,13 @@ use Rattle.ring_world.specs.Way as way
 use Rattle.ring_world.specs.Way.{Way, Comes, Fails, IsWay, CallPath, way_course, way_end, answered, answer_steps}
 use Rattle.ring_world.specs.Placing as placing
 use Rattle.ring_world.specs.Placing.{Asked, Placing, Placed, Undrawn, Unplaced, Overfull, Receded, PlacePath, place_course, place_end, draw_steps}
-use Rattle.dp_node.specs.declared.error.NodeError.{NodeError}
-use Rattle.dp_node.specs.declared.error.NodeError.TheVariants as errors
-use Rattle.dp_node.specs.Books as node
-use Rattle.dp_node.specs.Books.{Books, Does, acts, tally, draws_failed}
-use Rattle.dp_node.specs.HostState.{HostState, latest}
-use Rattle.dp_node.specs.Gather.{refusal}
-use Rattle.dp_node.proofs.Books.{IsFrontOf-le, draws_failed-append, tally_faults-append, tally_shorts-append, tally_fulls-append, acts_joined}
+use Rattle.node_calls.specs.declared.error.NodeError.{NodeError}
+use Rattle.node_calls.specs.declared.error.NodeError.TheVariants as errors
+use Rattle.node_calls.specs.Books as node
+use Rattle.node_calls.specs.Books.{Books, Does, acts, tally, draws_failed}
+use Rattle.node_calls.specs.HostState.{HostState, latest}
+use Rattle.node_calls.specs.Gather.{refusal}
+use Rattle.node_calls.proofs.Books.{IsFrontOf-le, draws_failed-append, tally_faults-append, tally_shorts-append, tally_fulls-append, acts_joined}
 use Rattle.dp_wire.specs.declared.request.BadRequest.{BadRequest}
 use Rattle.dp_wire.specs.Reading.{request_at}
 use Rattle.dp_wire.specs.Request.{Request, Ring, Roll, Revoke, RevokeBefore, Protect, Unprotect, ProtectText, UnprotectText, ProtectTimed, UnprotectTimed}

@@ -3,7 +3,7 @@ use Rattle.std.proofs.Common.{◌≡◌, ℕ, List, Option, false}
 use Rattle.dp_base.specs.Draws.{DrawState}
 use Rattle.key_elements.specs.declared.element.Element.{Element}
 use Rattle.repo_keeper.specs.Store.{Store}
-use Rattle.dp_node.specs.HostState.{HostState}
+use Rattle.node_calls.specs.HostState.{HostState}
 use Rattle.dp_session.specs.declared.end.BadPlace.{BadPlace}
 use Rattle.dp_session.specs.declared.status.Status.{Status}
 use Rattle.dp_session.specs.declared.trace.Entry.{Entry}

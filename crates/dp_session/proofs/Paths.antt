@@ -14,8 +14,8 @@ use Rattle.ring_world.specs.Path.{Call}
 use Rattle.ring_world.specs.Way.{CallPath, complete, cut_off, way_end, answered, own_after}
 use Rattle.ring_world.specs.Placing as placing
 use Rattle.ring_world.specs.Placing.{Asked, Placing, Placed, Undrawn, Unplaced, Overfull, Receded, PlacePath, place_of, place_end, place_course}
-use Rattle.dp_node.specs.Places.{EndsWithKey}
-use Rattle.dp_node.proofs.Placings.{grown-some}
+use Rattle.node_calls.specs.Places.{EndsWithKey}
+use Rattle.node_calls.proofs.Placings.{grown-some}
 
 enough : (b : Bool) (y r : RingOf) (why : Refusal) → (if b then Ok y else Err why) ≡ Ok r → y ≡ r
 enough true y r why e = cc

@@ -14,8 +14,8 @@ use Rattle.ring_world.specs.Flight.{Refusal}
 use Rattle.ring_world.specs.Path.{Call}
 use Rattle.ring_world.specs.Way.{CallPath}
 use Rattle.ring_world.specs.Placing.{Asked, PlacePath}
-use Rattle.dp_node.specs.Books.{Books}
-use Rattle.dp_node.proofs.Books.{IsFrontOf-trans, IsFrontOf-refl, IsFrontOf-le}
+use Rattle.node_calls.specs.Books.{Books}
+use Rattle.node_calls.proofs.Books.{IsFrontOf-trans, IsFrontOf-refl, IsFrontOf-le}
 use Rattle.dp_wire.specs.Frame.{frame, IsBodyLen}
 use Rattle.dp_wire.specs.Reading.{request_at}
 use Rattle.dp_wire.specs.Request.{Request}

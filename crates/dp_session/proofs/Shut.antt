@@ -8,8 +8,8 @@ use Rattle.key_elements.specs.Lists.{Extends}
 use Rattle.key_ring.specs.Keys.{is_named, keys_of}
 use Rattle.key_ring.specs.Ring.{RingOf}
 use Rattle.key_ring.specs.State.{state}
-use Rattle.dp_node.specs.declared.error.NodeError.{NodeError}
-use Rattle.dp_node.specs.declared.error.NodeError.TheVariants as errors
+use Rattle.node_calls.specs.declared.error.NodeError.{NodeError}
+use Rattle.node_calls.specs.declared.error.NodeError.TheVariants as errors
 use Rattle.dp_protector.specs.declared.refused.UnprotectRefused.{UnprotectRefused}
 use Rattle.dp_protector.specs.declared.refused.UnprotectRefused.TheVariants as opening
 use Rattle.dp_protector.specs.declared.refused.TextRefused.TheVariants as texts

@@ -11,7 +11,7 @@ use Rattle.ring_world.specs.Way as way
 use Rattle.ring_world.specs.Way.{CallPath}
 use Rattle.ring_world.specs.Placing as placing
 use Rattle.ring_world.specs.Placing.{Asked, Placing, Placed, Undrawn, Unplaced, Overfull, Receded, PlacePath, place_course}
-use Rattle.dp_node.proofs.Ways.{way_noted}
+use Rattle.node_calls.proofs.Ways.{way_noted}
 
 back_noted : (d : Course) (b : Bool) → (if b then closed d (Give ∷ []) else d).unnoted ≡ d.unnoted
 back_noted d true = refl

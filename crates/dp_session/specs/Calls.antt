@@ -5,7 +5,7 @@ use Rattle.std.specs.declared.alloc.Global.{Global}
 use Rattle.dp_base.specs.Draws.{DrawState, Draws}
 use Rattle.key_ring.specs.Ring.{RingOf, default_key}
 use Rattle.ring_world.specs.Flight.{Refusal}
-use Rattle.dp_node.specs.Gather.{refusal}
+use Rattle.node_calls.specs.Gather.{refusal}
 use Rattle.dp_protector.specs.declared.opened.Opened.{Opened}
 use Rattle.dp_protector.specs.declared.protect.TheConstants.{MAX_PLAIN}
 use Rattle.dp_protector.specs.declared.refused.ProtectRefused.{ProtectRefused}

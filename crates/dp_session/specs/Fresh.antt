@@ -4,11 +4,11 @@ use Rattle.std.specs.List.{AllByRecursion, flat_map}
 use Rattle.dp_base.specs.Counts.{more}
 use Rattle.ring_world.specs.declared.step.Step.{Step}
 use Rattle.ring_world.specs.Flight.{Refusal, StoreFault, DrawFault, Shorter, Behind, Forked, Full, BadDates, Memory}
-use Rattle.dp_node.specs.Books.{acts, tally, draws_failed}
-use Rattle.dp_node.specs.HostState.{latest}
-use Rattle.dp_node.specs.declared.error.NodeError.{NodeError}
-use Rattle.dp_node.specs.declared.error.NodeError.TheVariants as errors
-use Rattle.dp_node.specs.Gather.{refusal}
+use Rattle.node_calls.specs.Books.{acts, tally, draws_failed}
+use Rattle.node_calls.specs.HostState.{latest}
+use Rattle.node_calls.specs.declared.error.NodeError.{NodeError}
+use Rattle.node_calls.specs.declared.error.NodeError.TheVariants as errors
+use Rattle.node_calls.specs.Gather.{refusal}
 use Rattle.dp_session.specs.declared.trace.Entry.{Entry}
 use Rattle.dp_session.specs.declared.trace.Used.{Used}
 use Rattle.dp_session.specs.declared.trace.Used.TheVariants as used

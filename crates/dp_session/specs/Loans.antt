@@ -2,7 +2,7 @@
 use Rattle.std.specs.Prelude.{◌≡◌, ℕ, List, Option}
 use Rattle.dp_base.specs.Draws.{DrawState}
 use Rattle.repo_keeper.specs.Store.{Store}
-use Rattle.dp_node.specs.HostState.{HostState}
+use Rattle.node_calls.specs.HostState.{HostState}
 use Rattle.dp_session.specs.declared.serving.Session.{Session}
 use Rattle.dp_session.specs.Serving.{SessionState, state}
 

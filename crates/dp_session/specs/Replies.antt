@@ -6,8 +6,8 @@ use Rattle.dp_base.specs.Guid.{drawn_id}
 use Rattle.key_elements.specs.declared.element.Element.{Element}
 use Rattle.key_ring.specs.Listing.{listing}
 use Rattle.key_ring.specs.Ring.{RingOf, ring_of}
-use Rattle.dp_node.specs.declared.error.NodeError.{NodeError}
-use Rattle.dp_node.specs.declared.error.NodeError.TheVariants as errors
+use Rattle.node_calls.specs.declared.error.NodeError.{NodeError}
+use Rattle.node_calls.specs.declared.error.NodeError.TheVariants as errors
 use Rattle.dp_protector.specs.declared.refused.ProtectRefused.{ProtectRefused}
 use Rattle.dp_protector.specs.declared.refused.ProtectRefused.TheVariants as protecting
 use Rattle.dp_protector.specs.declared.refused.UnprotectRefused.{UnprotectRefused}

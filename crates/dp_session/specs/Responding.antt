@@ -3,7 +3,7 @@ use Rattle.std.specs.Prelude.{◌≡◌, ℕ, ◌≤◌, List, [], length, Some,
 use Rattle.dp_base.specs.Draws.{DrawState, Draws}
 use Rattle.dp_base.specs.declared.want.Memory.{Memory}
 use Rattle.key_ring.specs.Ring.{RingOf}
-use Rattle.dp_node.specs.declared.error.NodeError.TheVariants as errors
+use Rattle.node_calls.specs.declared.error.NodeError.TheVariants as errors
 use Rattle.dp_protector.specs.declared.refused.ProtectRefused.{ProtectRefused}
 use Rattle.dp_protector.specs.declared.refused.ProtectRefused.TheVariants as protecting
 use Rattle.dp_protector.specs.declared.refused.UnprotectRefused.{UnprotectRefused}

@@ -14,14 +14,14 @@ use Rattle.ring_world.specs.declared.step.Step.{Step}
 use Rattle.ring_world.specs.Flight.{Refusal}
 use Rattle.ring_world.specs.Way.{CallPath}
 use Rattle.ring_world.specs.Placing.{Asked, PlacePath}
-use Rattle.dp_node.specs.declared.error.NodeError.TheVariants as errors
-use Rattle.dp_node.specs.declared.call.At.{At}
-use Rattle.dp_node.specs.declared.error.NodeError.{NodeError}
-use Rattle.dp_node.specs.HostState.{HostState}
-use Rattle.dp_node.specs.Books.{Books, books, Does}
-use Rattle.dp_node.specs.Calls.{call}
-use Rattle.dp_node.specs.Gather.{refusal}
-use Rattle.dp_node.specs.Places.{asked}
+use Rattle.node_calls.specs.declared.error.NodeError.TheVariants as errors
+use Rattle.node_calls.specs.declared.call.At.{At}
+use Rattle.node_calls.specs.declared.error.NodeError.{NodeError}
+use Rattle.node_calls.specs.HostState.{HostState}
+use Rattle.node_calls.specs.Books.{Books, books, Does}
+use Rattle.node_calls.specs.Calls.{call}
+use Rattle.node_calls.specs.Gather.{refusal}
+use Rattle.node_calls.specs.Places.{asked}
 use Rattle.dp_wire.specs.declared.request.BadRequest.{BadRequest}
 use Rattle.dp_wire.specs.Frame.{frame}
 use Rattle.dp_wire.specs.Reading.{request_at}

@@ -7,8 +7,8 @@ ghost use Rattle.key_elements.specs.Lists.{Extends};
 ghost use Rattle.key_ring.specs.Ring.{RingOf};
 ghost use Rattle.ring_world.specs.Flight.{Refusal};
 ghost use Rattle.ring_world.specs.Way.{CallPath};
-ghost use Rattle.dp_node.specs.Books.{books, Does};
-ghost use Rattle.dp_node.specs.Calls.{call};
+ghost use Rattle.node_calls.specs.Books.{books, Does};
+ghost use Rattle.node_calls.specs.Calls.{call};
 ghost use Rattle.dp_session.specs.Calls.{Protects, Unprotects};
 ghost use Rattle.dp_session.specs.Needs.{named_in};
 

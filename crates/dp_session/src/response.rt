@@ -1,7 +1,7 @@
 //! What a request is answered by, and the frames of replies.
 
 ghost use Rattle.std.specs.Prelude.{◌≡◌, ◌≢◌, ◌<◌, ◌^◌, [], None, Some, length, IfOk, OnOk, MatchOption};
-ghost use Rattle.dp_node.specs.declared.error.NodeError.TheVariants as errors;
+ghost use Rattle.node_calls.specs.declared.error.NodeError.TheVariants as errors;
 ghost use Rattle.dp_wire.specs.declared.reply.Reply.TheVariants as replies;
 ghost use Rattle.dp_wire.specs.Frame.{frame};
 ghost use Rattle.dp_wire.specs.Replies.{reply_body};

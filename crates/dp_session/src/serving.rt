@@ -6,7 +6,7 @@ ghost use Rattle.dp_base.specs.Counts.{one_more};
 ghost use Rattle.dp_base.specs.Readers.{seen};
 ghost use Rattle.dp_base.specs.Transfer.{Writes, WritesFront};
 ghost use Rattle.key_elements.specs.Lists.{Extends};
-ghost use Rattle.dp_node.specs.Books.{books};
+ghost use Rattle.node_calls.specs.Books.{books};
 ghost use Rattle.dp_wire.specs.declared.frame.TheConstants.{MAX_BODY};
 ghost use Rattle.dp_wire.specs.Request.{request_of, IsRequest};
 ghost use Rattle.dp_session.specs.declared.status.Status.TheVariants.{ReadFault, WriteFault};

@@ -25,5 +25,5 @@ loop-seat-preserved c =
       omega arith,
       subst (AreOpened c.args.facts ring (length c.args.seats.items)) (sym ep)
           (at_push (IsOpened c.args.facts ring (length c.args.seats.items)) made pass inv.5
-          (opened_at c.args.facts ring (length c.args.seats.items) (length made) _ pass c.in_ok-over.ensures (omega arith))),
+          (opened_at c.args.facts ring (length c.args.seats.items) (length made) _ _ pass c.in_ok-over.ensures (omega arith))),
     )

@@ -1,5 +1,5 @@
 use Rattle.std.proofs.Common.{[], refl}
-use Rattle.dp_node.specs.Books.{books}
+use Rattle.node_calls.specs.Books.{books}
 use Rattle.dp_wire.specs.Request.{request_of}
 use Rattle.dp_session.proofs.Answers.{ring_given, ring_refused}
 use Rattle.dp_session.proofs.answer.answer_by_ring.Goals as goal

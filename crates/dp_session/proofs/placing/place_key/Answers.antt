@@ -2,9 +2,9 @@ use Rattle.std.proofs.Common.{◌≡◌, ℕ, true, [], ap, ⊎_elim}
 use Rattle.dp_base.specs.Codes.{code_of}
 use Rattle.repo_keeper.specs.Made.{key_of_draw, AreBadDates}
 use Rattle.ring_world.specs.Placing.{Asked}
-use Rattle.dp_node.specs.declared.error.NodeError.TheVariants as errors
-use Rattle.dp_node.specs.Books.{books}
-use Rattle.dp_node.specs.Places.{asked}
+use Rattle.node_calls.specs.declared.error.NodeError.TheVariants as errors
+use Rattle.node_calls.specs.Books.{books}
+use Rattle.node_calls.specs.Places.{asked}
 use Rattle.dp_wire.specs.Request.{Roll}
 use Rattle.dp_session.proofs.Answers.{placed_given, placed_refused, front_at, rolled_reply, misdated_by, same_books, dates_tell}
 use Rattle.dp_session.proofs.placing.place_key.Goals as goal

@@ -2,9 +2,9 @@ use Rattle.std.proofs.Common.{◌≡◌, ◌<◌, ℕ, List, [], false, refl, ap
 use Rattle.dp_base.specs.declared.ticks.TheConstants.{MAX_TICKS}
 use Rattle.key_elements.specs.declared.element.Element.TheVariants.{RevokeBefore as Before}
 use Rattle.ring_world.specs.Placing.{Asked}
-use Rattle.dp_node.specs.declared.error.NodeError.TheVariants as errors
-use Rattle.dp_node.specs.Books.{books}
-use Rattle.dp_node.specs.Places.{asked}
+use Rattle.node_calls.specs.declared.error.NodeError.TheVariants as errors
+use Rattle.node_calls.specs.Books.{books}
+use Rattle.node_calls.specs.Places.{asked}
 use Rattle.dp_wire.specs.declared.reply.Reply.TheVariants as replies
 use Rattle.dp_wire.specs.Replies.{reply_body}
 use Rattle.dp_wire.specs.Request.{RevokeBefore}

@@ -1,7 +1,7 @@
 use Rattle.std.proofs.Common.{ℕ, List, false, ap}
 use Rattle.key_elements.specs.declared.element.Element.TheVariants.{RevokeKey}
 use Rattle.ring_world.specs.Placing.{Asked}
-use Rattle.dp_node.specs.Places.{asked}
+use Rattle.node_calls.specs.Places.{asked}
 use Rattle.dp_wire.specs.declared.reply.Reply.TheVariants as replies
 use Rattle.dp_wire.specs.Replies.{reply_body}
 use Rattle.dp_wire.specs.Request.{Revoke}

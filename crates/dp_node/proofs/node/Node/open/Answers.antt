@@ -1,8 +1,8 @@
 use Rattle.std.proofs.Common.{sym, ap, ◌∙◌, Ok}
 use Rattle.std.proofs.lemmas.Result.{err_from_is_err_and}
-use Rattle.dp_node.specs.Opening.{IsRing}
+use Rattle.node_calls.specs.Opening.{IsRing}
 use Rattle.dp_node.specs.NodeOpening.{IsNode, facts_of}
-use Rattle.dp_node.proofs.Openings.{same_refused}
+use Rattle.node_calls.proofs.Openings.{same_refused}
 use Rattle.dp_node.proofs.node.Node.open.Goals as goal
 
 pub returns-in_err-ring : goal.returns-in_err-ring

@@ -1,6 +1,7 @@
 use Rattle.std.proofs.Common.{◌++◌, ◌∷◌, [], ◌∙◌, length, sym, ap, None, Some}
 use Rattle.ring_world.specs.declared.step.Step.TheVariants.{Publish}
-use Rattle.dp_node.specs.HostState.{latest}
+use Rattle.node_calls.specs.HostState.{latest}
+use Rattle.dp_node.specs.Passes.{at_turn}
 use Rattle.dp_node.proofs.Leading.{in_hand, floor_publish, line_publish, led_publish, led_still}
 use Rattle.dp_node.proofs.pass.PassHost.publish.Goals as goal
 
@@ -42,6 +43,7 @@ returns-in-Ok-clause-ok g c =
       floor = floor_publish me.viewer c.learn.new.self c.tell.result c.learn.ensures.learnt s c.set.new.self c.tell.new.self c.args.ring led c.requires.extends c.in-Ok.ensures.set c.tell.ensures.told i;
       acts = (c.push.ensures ∙ (λ j. latest (me.notes.acts ++ Publish ((c.len.ensures.value ∙ ap length c.list.ensures) j) (c.until.ensures j) ∷ []))) i;
       single = None;
+      turn = Some (at_turn me.seat);
     }
 
 pub returns-in-Ok-clause-set : goal.returns-in-Ok-clause-set

@@ -1,7 +1,8 @@
-use Rattle.std.proofs.Common.{◌++◌, ◌∷◌, [], ◌∙◌, sym, ap, is_some, None}
-use Rattle.dp_node.specs.HostState.{latest}
+use Rattle.std.proofs.Common.{◌++◌, ◌∷◌, [], ◌∙◌, sym, ap, is_some, None, Some}
+use Rattle.node_calls.specs.HostState.{latest}
 use Rattle.dp_node.specs.Floor.{floor_of}
-use Rattle.dp_node.proofs.Books.{IsFrontOf-trans}
+use Rattle.dp_node.specs.Passes.{at_turn}
+use Rattle.node_calls.proofs.Books.{IsFrontOf-trans}
 use Rattle.dp_node.proofs.Leading.{led_up, up_same, extends_look, floor_look, up_look, line_look}
 use Rattle.dp_node.proofs.pass.PassHostView.look.Goals as goal
 
@@ -42,4 +43,5 @@ returns-in-Ok-clause-ok c =
       floor = floor_look me.viewer c.look.new.self c.in-Ok.ring c.in-Ok.ensures.looked i;
       acts = (c.push.ensures ∙ ap (λ a. latest (me.notes.acts ++ a ∷ [])) c.look_step.ensures) i;
       single = None;
+      turn = Some (at_turn me.seat);
     }

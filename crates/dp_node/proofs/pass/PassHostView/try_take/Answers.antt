@@ -1,8 +1,8 @@
-use Rattle.std.proofs.Common.{◌∙◌, sym, ap, subst, None, true}
+use Rattle.std.proofs.Common.{◌∙◌, sym, ap, subst, None, Some, true}
 use Rattle.swap_cell.specs.Cells.{setter_cell}
 use Rattle.flight_turn.specs.Seats.{IsSeatOf, turn_mark}
 use Rattle.dp_node.specs.Floor.{floor_of}
-use Rattle.dp_node.proofs.Books.{IsFrontOf-trans}
+use Rattle.node_calls.proofs.Books.{IsFrontOf-trans}
 use Rattle.dp_node.proofs.Leading.{in_hand, up_learn, led_take}
 use Rattle.dp_node.proofs.pass.PassHostView.try_take.Goals as goal
 
@@ -31,8 +31,9 @@ returns-in-Ok-clause-takes c = let me = c.args.self.now in let w = c.learn.new.s
     floor = floor_of w;
     acts = c.push.ensures i;
     single = None;
+    turn = Some (record { steps = c.in-Ok.ensures.same.0.1 i; read = c.in-Ok.ensures.taken.0 i });
   },
 )
 
 pub returns-in-Err-clause-another : goal.returns-in-Err-clause-another
-returns-in-Err-clause-another c = let me = c.args.self.now in let busy = c.in-Err.ensures in λ e. busy.another (me.holds ∙ c.requires) (e ∙ busy.same.0.0.1)
+returns-in-Err-clause-another c = let me = c.args.self.now in let busy = c.in-Err.ensures in λ e. busy.another (me.holds ∙ c.requires) (e ∙ sym me.numbered)

@@ -1,5 +1,5 @@
 use Rattle.std.proofs.Common.{refl}
-use Rattle.dp_node.proofs.Books.{IsFrontOf-refl}
+use Rattle.node_calls.proofs.Books.{IsFrontOf-refl}
 use Rattle.dp_node.proofs.solo.SoloHostView.try_take.Goals as goal
 
 pub returns : goal.returns

@@ -1,0 +1,10 @@
+//! A cluster: sessions over one history. An audit of their traces tells the first that left it.
+#![tactic(auto)]
+
+mod auditing;
+mod differs;
+#[cfg(test)]
+mod tests;
+
+pub use auditing::{AuditFork, audit};
+pub use differs::Differs;

@@ -1,0 +1,16 @@
+pub mod Books
+pub mod Refusals
+pub mod Latest
+pub mod Refused
+pub mod Renewal
+pub mod Fronts
+pub mod Flights
+pub mod Courses
+pub mod Settles
+pub mod Ways
+pub mod Stale
+pub mod Sights
+pub mod HostSteps
+pub mod Placings
+pub mod Openings
+pub mod Nows

@@ -1,0 +1,10 @@
+pub mod HostState
+pub mod Sight
+pub mod Books
+pub mod Gather
+pub mod Calls
+pub mod Stale
+pub mod Places
+pub mod Opening
+pub mod Lent
+pub mod Now

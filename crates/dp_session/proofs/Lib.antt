@@ -12,3 +12,4 @@ pub mod Shut
 pub mod Unsealed
 pub mod Loans
 pub mod Looks
+pub mod Passing

@@ -3,13 +3,13 @@ use Rattle.std.proofs.Common.{◌≡◌, List, length, take, Result, Ok, Err, sy
 use Rattle.key_elements.specs.declared.element.Element.{Element}
 use Rattle.key_elements.specs.Lists.{Extends}
 use Rattle.key_ring.specs.Ring.{RingOf}
-use Rattle.dp_node.specs.declared.call.At.{At}
-use Rattle.dp_node.specs.declared.now.NowRefused.{NowRefused}
-use Rattle.dp_node.specs.declared.now.NowRefused.TheVariants.{Due, Forked, Memory}
-use Rattle.dp_node.specs.HostState.{HostState}
-use Rattle.dp_node.specs.Now.{GivesNow}
-use Rattle.dp_node.proofs.Books.{IsFrontOf-refl}
-use Rattle.dp_node.proofs.Nows.{used_extends}
+use Rattle.node_calls.specs.declared.call.At.{At}
+use Rattle.node_calls.specs.declared.now.NowRefused.{NowRefused}
+use Rattle.node_calls.specs.declared.now.NowRefused.TheVariants.{Due, Forked, Memory}
+use Rattle.node_calls.specs.HostState.{HostState}
+use Rattle.node_calls.specs.Now.{GivesNow}
+use Rattle.node_calls.proofs.Books.{IsFrontOf-refl}
+use Rattle.node_calls.proofs.Nows.{used_extends}
 
 same_own : (old new : HostState) → new.own ≡ old.own → Extends new.own old.own
 same_own old new e = subst (λ (xs : List Element). Extends xs old.own) (sym e) (IsFrontOf-refl old.own)

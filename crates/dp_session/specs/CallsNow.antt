@@ -4,9 +4,9 @@ use Rattle.std.specs.declared.vec.Vec.{Vec}
 use Rattle.std.specs.declared.alloc.Global.{Global}
 use Rattle.dp_base.specs.Draws.{DrawState}
 use Rattle.key_ring.specs.Ring.{RingOf}
-use Rattle.dp_node.specs.declared.error.NodeError.TheVariants as errors
-use Rattle.dp_node.specs.declared.now.NowRefused.{NowRefused}
-use Rattle.dp_node.specs.declared.now.NowRefused.TheVariants as now
+use Rattle.node_calls.specs.declared.error.NodeError.TheVariants as errors
+use Rattle.node_calls.specs.declared.now.NowRefused.{NowRefused}
+use Rattle.node_calls.specs.declared.now.NowRefused.TheVariants as now
 use Rattle.dp_protector.specs.declared.opened.Opened.{Opened}
 use Rattle.dp_session.specs.declared.calls.Answered.{Answered}
 use Rattle.dp_session.specs.declared.calls.CallRefused.{CallRefused}

@@ -4,8 +4,8 @@ ghost use Rattle.std.specs.Prelude.{◌≡◌, ◌<◌, ◌≤◌, ◌^◌, leng
 ghost use Rattle.dp_base.specs.declared.ticks.TheConstants.{LAST};
 ghost use Rattle.key_elements.specs.Lists.{Extends};
 ghost use Rattle.key_ring.specs.Ring.{RingOf};
-ghost use Rattle.dp_node.specs.declared.now.NowRefused.{NowRefused};
-ghost use Rattle.dp_node.specs.Now.{GivesNow};
+ghost use Rattle.node_calls.specs.declared.now.NowRefused.{NowRefused};
+ghost use Rattle.node_calls.specs.Now.{GivesNow};
 ghost use Rattle.dp_session.specs.CallsNow.{ProtectsNow, UnprotectsNow, refused_now};
 
 use crate::calls::{Answered, CallRefused, opened_by, sealed_by};

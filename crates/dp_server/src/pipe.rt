@@ -6,7 +6,7 @@ ghost use Rattle.dp_session.specs.declared.session.TheConstants.{MAX_REQUESTS};
 ghost use Rattle.dp_session.specs.declared.status.Status.TheVariants.{BadWords, BadInput, ReadFault, WriteFault, StoreFault, DrawFault, Spent};
 ghost use Rattle.dp_session.specs.Frames.{AreWhole};
 ghost use Rattle.dp_session.specs.Session.{IsSpentEnd};
-ghost use Rattle.dp_session.specs.declared.app.TheConstants.{MAX_APP};
+ghost use Rattle.dp_answer.specs.declared.app.TheConstants.{MAX_APP};
 ghost use Rattle.dp_server.specs.Pipe.{AreStandard, Pipes, around, status_of};
 
 use crate::outcome::Outcome;

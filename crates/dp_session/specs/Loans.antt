@@ -4,7 +4,7 @@ use Rattle.dp_base.specs.Draws.{DrawState}
 use Rattle.repo_keeper.specs.Store.{Store}
 use Rattle.node_calls.specs.HostState.{HostState}
 use Rattle.dp_session.specs.declared.serving.Session.{Session}
-use Rattle.dp_session.specs.Serving.{SessionState, state}
+use Rattle.dp_answer.specs.Serving.{SessionState, state}
 
 -- the same loans, whatever stands behind them now
 pub record SameSession {W H R D C G : _} (old new : Session W H R D C G) : Type 0 where

@@ -9,13 +9,13 @@ use Rattle.dp_session.specs.declared.end.BadPlace.{BadPlace}
 use Rattle.dp_session.specs.declared.end.BadWhy.{BadWhy}
 use Rattle.dp_session.specs.declared.status.Status.{Status}
 use Rattle.dp_session.specs.declared.status.Status.TheVariants as status
-use Rattle.dp_session.specs.declared.trace.Entry.{Entry}
-use Rattle.dp_session.specs.declared.trace.Used.{Used}
-use Rattle.dp_session.specs.declared.trace.Used.TheVariants as used
+use Rattle.dp_answer.specs.declared.trace.Entry.{Entry}
+use Rattle.dp_answer.specs.declared.trace.Used.{Used}
+use Rattle.dp_answer.specs.declared.trace.Used.TheVariants as used
 use Rattle.std.specs.Io.KnownBytes.{Consumes}
 use Rattle.dp_session.specs.Frames.{frames, AreBodies, RefusesFrame, TakesPart}
-use Rattle.dp_session.specs.Replies.{reply_to}
-use Rattle.dp_session.specs.Serving.{SessionState, IsEntry}
+use Rattle.dp_answer.specs.Replies.{reply_to}
+use Rattle.dp_answer.specs.Serving.{SessionState, IsEntry}
 
 -- the most requests of a session
 abbrev pub MOST : ℕ

@@ -63,9 +63,16 @@ fn told_now<H: HostView>(alloc: Global, host: &mut H) -> Result<(bool, bool, Why
     let sealed = seal_now(alloc, host, TICKS_PER_DAY - 1)??;
     let opened = open_now(alloc, host, TICKS_PER_DAY - 1)??;
     let bytes = bytes_of(alloc, EMPTY_SEALED)?;
-    match (seal_now(alloc, host, TICKS_PER_DAY)?, open_now(alloc, host, TICKS_PER_DAY)?) {
+    match (
+        seal_now(alloc, host, TICKS_PER_DAY)?,
+        open_now(alloc, host, TICKS_PER_DAY)?,
+    ) {
         (Err(CallRefused::Due(why)), Err(CallRefused::Due(same))) if why == same => {
-            Ok((is_sealed(&sealed, bytes.as_slice()), is_opened(&opened), why))
+            Ok((
+                is_sealed(&sealed, bytes.as_slice()),
+                is_opened(&opened),
+                why,
+            ))
         }
         _ => Err("not due".into()),
     }

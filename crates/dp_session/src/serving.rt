@@ -12,20 +12,17 @@ ghost use Rattle.dp_wire.specs.Request.{request_of, IsRequest};
 ghost use Rattle.dp_session.specs.declared.status.Status.TheVariants.{ReadFault, WriteFault};
 ghost use Rattle.dp_session.specs.Frames.{IsKept, Reads};
 ghost use Rattle.dp_session.specs.Session.{EndsAt, OneMore, OneServed, outside};
-ghost use Rattle.dp_session.specs.Needs.{IsShort};
+ghost use Rattle.dp_answer.specs.Needs.{IsShort};
 ghost use Rattle.dp_session.specs.Loans.{SameSession, standing};
-ghost use Rattle.dp_session.specs.Serving.{Served, after, before};
+ghost use Rattle.dp_answer.specs.Serving.{Served, after, before};
 ghost use Rattle.dp_session.specs.Exchanges.{exchange_of, reply_bytes, list_after, halt_of, IsExchange};
 
-use crate::answer::answer;
-use crate::app::Setting;
 use crate::end::BadWhy;
 use crate::gate::Gate;
-use crate::needs::need_of;
+use crate::log::Log;
 use crate::reading::{Body, Frame, Unread, read_frame};
-use crate::response::Response;
 use crate::status::Status;
-use crate::trace::{Drawn, Entry, Log, Used};
+use dp_answer::{Drawn, Entry, Response, Setting, Used, answer, need_of};
 use dp_base::{Clock, Draw, Failed, LAST, Memory, Sink, Source, Taped, write_all};
 use dp_node::{Host, HostView, Lent};
 use dp_wire::{BadRequest, RequestView, no_memory_frame};
@@ -183,9 +180,20 @@ fn unread(why: Unread) -> Halt
     }
 }
 
-impl<W, H: Host<W>, R: Repo<W>, D: Draw, C: Clock, G: Gate<W>>
-    Session<'_, '_, '_, '_, '_, '_, W, H, R, D, C, G>
-{
+impl<W, H: Host<W>, R: Repo<W>, D: Draw, C: Clock, G: Gate<W>> Session<
+    '_,
+    '_,
+    '_,
+    '_,
+    '_,
+    '_,
+    W,
+    H,
+    R,
+    D,
+    C,
+    G,
+> {
     // Serves a request, and tells the bytes that it drew.
     fn answer_told(
         &mut self,

@@ -6,15 +6,15 @@ ghost use Rattle.dp_session.specs.declared.status.Status.TheVariants.{BadInput, 
 ghost use Rattle.dp_session.specs.Frames.{AreWhole};
 ghost use Rattle.dp_session.specs.Fresh.{AreFresh, AreCountedBy};
 ghost use Rattle.dp_session.specs.Shut.{AreShut};
-ghost use Rattle.dp_session.specs.Serving.{state};
+ghost use Rattle.dp_answer.specs.Serving.{state};
 ghost use Rattle.dp_session.specs.Session.{EndsInput, HavePassed, IsSpentEnd, IsSession, bad_at, outside};
 
-use crate::app::{Setting, Setup};
 use crate::end::{BadPlace, SessionEnd};
 use crate::gate::Gate;
+use crate::log::Log;
 use crate::serving::{Halt, Session};
 use crate::status::Status;
-use crate::trace::Log;
+use dp_answer::{Setting, Setup};
 use dp_base::{Clock, Draw, Sink, Source, read_full};
 use dp_encryptor::HeaderTable;
 use dp_node::{Host, HostView};

@@ -1,6 +1,6 @@
 -- the requests so far were served, one a turn
 use Rattle.std.proofs.Common.{◌≡◌, ◌≤◌, ◌*◌, false, [], length}
-use Rattle.dp_session.specs.Serving.{state}
+use Rattle.dp_answer.specs.Serving.{state}
 use Rattle.dp_session.specs.Session.{outside, HavePassed, SoFar}
 use Rattle.dp_session.proofs.session.serve_session.Given as goal
 

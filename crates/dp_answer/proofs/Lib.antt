@@ -1,0 +1,5 @@
+pub mod Paths
+pub mod Answers
+pub mod Responses
+pub mod Unsealed
+pub mod Looks

@@ -2,4 +2,3 @@ pub mod Paths
 pub mod Answers
 pub mod Responses
 pub mod Unsealed
-pub mod Looks

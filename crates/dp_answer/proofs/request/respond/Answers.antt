@@ -1,5 +1,5 @@
 use Rattle.std.proofs.Common.{sym}
-use Rattle.dp_answer.proofs.answer.respond.Goals as goal
+use Rattle.dp_answer.proofs.request.respond.Goals as goal
 
 pub opened-requires : goal.opened-requires
 opened-requires g c = rw c.in-Unprotect.is at c.requires.short

@@ -2,7 +2,7 @@ use Rattle.std.proofs.Common.{[], refl}
 use Rattle.node_calls.specs.Books.{books}
 use Rattle.dp_wire.specs.Request.{request_of}
 use Rattle.dp_answer.proofs.Answers.{ring_given, ring_refused}
-use Rattle.dp_answer.proofs.answer.answer_by_ring.Goals as goal
+use Rattle.dp_answer.proofs.request.answer_by_ring.Goals as goal
 
 pub returns-in-Ok-clause-served : goal.returns-in-Ok-clause-served
 returns-in-Ok-clause-served g c =

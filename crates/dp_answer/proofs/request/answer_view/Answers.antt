@@ -2,7 +2,7 @@ use Rattle.std.proofs.Common.{[]}
 use Rattle.dp_wire.specs.Chains.{chain_of}
 use Rattle.dp_wire.specs.Request.{ProtectTimed}
 use Rattle.dp_answer.proofs.Answers.{misdated_refused}
-use Rattle.dp_answer.proofs.answer.answer_view.Goals as goal
+use Rattle.dp_answer.proofs.request.answer_view.Goals as goal
 
 pub returns-in-Revoke-clause-served : goal.returns-in-Revoke-clause-served
 returns-in-Revoke-clause-served g c = rw c.in-Revoke.is (c.place_revocation.ensures.served c.args.setting.app.now)

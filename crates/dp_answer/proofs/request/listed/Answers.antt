@@ -1,7 +1,7 @@
 use Rattle.std.proofs.Common.{◌∙◌, length, refl, ap, arith}
 use Rattle.dp_wire.specs.Request.{Ring}
 use Rattle.dp_answer.proofs.Responses.{dry_answer, by_listing}
-use Rattle.dp_answer.proofs.answer.listed.Goals as goal
+use Rattle.dp_answer.proofs.request.listed.Goals as goal
 
 pub returns : goal.returns
 returns c = λ app now need draws.

@@ -5,7 +5,7 @@ use Rattle.std.proofs.lemmas.List.Elements.{All-push}
 use Rattle.key_elements.specs.declared.element.Element.{Element}
 use Rattle.key_elements.specs.Lists.{Extends}
 use Rattle.key_elements.specs.Growth.{Extends-transitive}
-use Rattle.dp_session.specs.declared.trace.Trace.{Trace}
+use Rattle.dp_answer.specs.declared.trace.Trace.{Trace}
 use Rattle.dp_cluster.specs.Audit.{AreFronts, HasFronts}
 
 Extends-take : (n : ℕ) (list : List Element) → Extends list (take n list)

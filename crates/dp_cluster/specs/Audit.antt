@@ -2,7 +2,7 @@
 use Rattle.std.specs.Prelude.{◌≡◌, ◌⊎◌, ℕ, ◌<◌, List, length, take, slice_get, IsSomeAnd, All}
 use Rattle.key_elements.specs.declared.element.Element.{Element}
 use Rattle.key_elements.specs.Lists.{Extends, IsFirstDifference}
-use Rattle.dp_session.specs.declared.trace.Trace.{Trace}
+use Rattle.dp_answer.specs.declared.trace.Trace.{Trace}
 use Rattle.dp_session.specs.Session.{front_of}
 use Rattle.dp_cluster.specs.declared.auditing.AuditFork.{AuditFork}
 

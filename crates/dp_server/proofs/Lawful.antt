@@ -3,7 +3,7 @@ use Rattle.std.proofs.Common.{◌≡◌, ℕ, ◌-◌, ◌<◌, ◌≤◌, List,
 use Rattle.std.proofs.lemmas.List.{take_all}
 use Rattle.std.specs.Fmt.{decimal}
 use Rattle.dp_base.specs.declared.ticks.TheConstants.{MAX_TICKS}
-use Rattle.dp_session.specs.declared.app.TheConstants.{MAX_APP}
+use Rattle.dp_answer.specs.declared.app.TheConstants.{MAX_APP}
 use Rattle.dp_server.specs.declared.words.Command.{Command}
 use Rattle.dp_server.specs.declared.words.Command.TheVariants as commands
 use Rattle.dp_server.specs.declared.words.PipeOptions.{PipeOptions}

@@ -2,7 +2,7 @@
 use Rattle.std.proofs.Common.{◌≡◌, ◌≢◌, ℕ, zero, suc, ◌<◌, ◌≤◌, List, [], ◌∷◌, ◌++◌, length, refl, sym, ap, ◌∙◌, arith}
 use Rattle.std.specs.List.{All, AllPairs, flat_map}
 use Rattle.std.proofs.lemmas.List.Kept.{AllPairs-cons}
-use Rattle.dp_session.specs.declared.app.TheConstants.{MAX_APP}
+use Rattle.dp_answer.specs.declared.app.TheConstants.{MAX_APP}
 use Rattle.dp_server.specs.Words.{PipeOption, NoAuto, App, flag, words_of, IsOption, Settings, with_option, settings_by, AreOptions}
 use Rattle.dp_server.specs.Commands.{IsNext, IsFree}
 

@@ -2,7 +2,7 @@
 use Rattle.std.proofs.Common.{◌≡◌, ℕ, List, [], None, refl}
 use Rattle.node_calls.specs.HostState.{HostState}
 use Rattle.dp_session.specs.declared.status.Status.TheVariants as status
-use Rattle.dp_session.specs.Serving.{state}
+use Rattle.dp_answer.specs.Serving.{state}
 use Rattle.dp_session.specs.Session.{outside}
 use Rattle.dp_session.proofs.Freshness.{chain_counts}
 use Rattle.dp_session.proofs.Sessions.{so_far-none, session_ends}

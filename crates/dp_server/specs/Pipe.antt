@@ -21,7 +21,7 @@ use Rattle.dp_node.specs.SoloOpening.{IsSolo, first_facts}
 use Rattle.dp_session.specs.declared.status.Status.{Status}
 use Rattle.dp_session.specs.declared.status.Status.TheVariants as status
 use Rattle.dp_session.specs.Fresh.{AreFresh, AreCountedBy}
-use Rattle.dp_session.specs.Serving.{state}
+use Rattle.dp_answer.specs.Serving.{state}
 use Rattle.dp_session.specs.Shut.{AreShut}
 use Rattle.dp_session.specs.Session.{IsSession, outside}
 use Rattle.dp_server.specs.declared.outcome.Outcome.{Outcome}

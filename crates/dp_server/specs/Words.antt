@@ -2,7 +2,7 @@
 use Rattle.std.specs.Prelude.{◌≡◌, ◌≢◌, ℕ, ◌≤◌, List, [], ◌∷◌, length, flat_map, All, AllPairs, Bool, true, false, slice_index, codes, ⊤}
 use Rattle.std.specs.Fmt.{decimal}
 use Rattle.dp_base.specs.declared.ticks.TheConstants.{MAX_TICKS}
-use Rattle.dp_session.specs.declared.app.TheConstants.{MAX_APP}
+use Rattle.dp_answer.specs.declared.app.TheConstants.{MAX_APP}
 
 -- a number in this text would have no sign (43 is '+'), and no zero (48) in front of more digits
 abbrev pub IsPlain : List ℕ → Type 0

@@ -6,7 +6,7 @@ ghost use Rattle.dp_session.specs.declared.session.TheConstants.{MAX_REQUESTS};
 ghost use Rattle.dp_session.specs.declared.status.Status.TheVariants.{BadWords, BadInput, ReadFault, WriteFault, StoreFault, DrawFault, Spent};
 ghost use Rattle.dp_session.specs.Frames.{AreWhole};
 ghost use Rattle.dp_session.specs.Session.{IsSpentEnd};
-ghost use Rattle.dp_session.specs.declared.app.TheConstants.{MAX_APP};
+ghost use Rattle.dp_answer.specs.declared.app.TheConstants.{MAX_APP};
 ghost use Rattle.dp_server.specs.Pipe.{AreStandard, Pipes, around, status_of};
 
 use crate::outcome::Outcome;
@@ -14,7 +14,7 @@ use default_key::Options;
 use dp_base::{Clock, Draw, LAST, Sink, Source};
 use dp_encryptor::HeaderTable;
 use dp_node::{OpenRefused, Solo};
-use dp_session::{AppName, MAX_APP, Setup, Status, serve_session};
+use dp_session::{AppName, MAX_APP, NoGate, Setup, Status, serve_session};
 use repo_keeper::Repo;
 use std::alloc::Global;
 
@@ -96,6 +96,8 @@ pub(crate) fn pipe<R: Repo<()>, D: Draw, C: Clock, I: Source, O: Sink>(
         repo,
         draw,
         clock,
+        &NoGate,
+        0,
         &setup,
         &headers,
         input,

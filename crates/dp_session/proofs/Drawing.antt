@@ -32,11 +32,11 @@ use Rattle.node_calls.specs.HostState.{HostState}
 use Rattle.node_calls.specs.Books.{Books, books, Does, draws_failed}
 use Rattle.dp_wire.specs.declared.request.BadRequest.{BadRequest}
 use Rattle.dp_wire.specs.Request.{Request, Ring, Roll, Revoke, RevokeBefore, Protect, Unprotect, ProtectText, UnprotectText, ProtectTimed, UnprotectTimed}
-use Rattle.dp_session.specs.declared.response.Response.{Response}
-use Rattle.dp_session.specs.declared.trace.Used.{Used}
-use Rattle.dp_session.specs.declared.trace.Used.TheVariants as used
-use Rattle.dp_session.specs.Needs.{sealed_len}
-use Rattle.dp_session.specs.Serving.{Serves, unread, unstarted, misdated, by_ring, by_place, AnswersByRing, refused, answered, undrawn, stopped, lost, unheard, Served}
+use Rattle.dp_answer.specs.declared.response.Response.{Response}
+use Rattle.dp_answer.specs.declared.trace.Used.{Used}
+use Rattle.dp_answer.specs.declared.trace.Used.TheVariants as used
+use Rattle.dp_answer.specs.Needs.{sealed_len}
+use Rattle.dp_answer.specs.Serving.{Serves, unread, unstarted, misdated, by_ring, by_place, AnswersByRing, refused, answered, undrawn, stopped, lost, unheard, Served}
 
 path_drawn : (c : Call) (p : Path) → drawn_count (path_course c p).steps ≤ 88
 path_drawn c (FirstLookFailed n) = omega arith

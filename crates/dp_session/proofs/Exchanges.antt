@@ -11,17 +11,17 @@ use Rattle.repo_keeper.specs.Store.{Store}
 use Rattle.node_calls.specs.HostState.{HostState}
 use Rattle.dp_wire.specs.Frame.{frame, IsBodyLen}
 use Rattle.dp_session.specs.declared.serving.Exchange.{Exchange}
-use Rattle.dp_session.specs.declared.trace.Entry.{Entry}
-use Rattle.dp_session.specs.declared.trace.Used.{Used}
-use Rattle.dp_session.specs.declared.trace.Used.TheVariants as used
+use Rattle.dp_answer.specs.declared.trace.Entry.{Entry}
+use Rattle.dp_answer.specs.declared.trace.Used.{Used}
+use Rattle.dp_answer.specs.declared.trace.Used.TheVariants as used
 use Rattle.dp_base.specs.declared.want.Memory.{Memory}
 use Rattle.key_elements.specs.Lists.{Extends}
 use Rattle.ring_world.specs.declared.step.Step.{Step}
 use Rattle.dp_wire.specs.Reading.{request_at}
-use Rattle.dp_session.specs.declared.response.Response.{Response}
-use Rattle.dp_session.specs.Needs.{need_of}
-use Rattle.dp_session.specs.Replies.{reply_to}
-use Rattle.dp_session.specs.Serving.{SessionState, state, Serves, Served, before, after, IsListOf}
+use Rattle.dp_answer.specs.declared.response.Response.{Response}
+use Rattle.dp_answer.specs.Needs.{need_of}
+use Rattle.dp_answer.specs.Replies.{reply_to}
+use Rattle.dp_answer.specs.Serving.{SessionState, state, Serves, Served, before, after, IsListOf}
 use Rattle.dp_session.specs.Exchanges.{exchange_of, list_after, reply_bytes, IsExchange}
 use Rattle.dp_session.specs.Session.{outside, IsListAfter, OneServed, OneMore}
 use Rattle.dp_session.proofs.Drawing.{drew}

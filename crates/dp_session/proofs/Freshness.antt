@@ -31,14 +31,14 @@ use Rattle.node_calls.proofs.Books.{IsFrontOf-le, draws_failed-append, tally_fau
 use Rattle.dp_wire.specs.declared.request.BadRequest.{BadRequest}
 use Rattle.dp_wire.specs.Reading.{request_at}
 use Rattle.dp_wire.specs.Request.{Request, Ring, Roll, Revoke, RevokeBefore, Protect, Unprotect, ProtectText, UnprotectText, ProtectTimed, UnprotectTimed}
-use Rattle.dp_session.specs.declared.trace.Entry.{Entry}
-use Rattle.dp_session.specs.declared.trace.Used.{Used}
-use Rattle.dp_session.specs.declared.trace.Used.TheVariants as used
+use Rattle.dp_answer.specs.declared.trace.Entry.{Entry}
+use Rattle.dp_answer.specs.declared.trace.Used.{Used}
+use Rattle.dp_answer.specs.declared.trace.Used.TheVariants as used
 use Rattle.dp_session.specs.Fresh.{IsFresh, IsFreshUse, AreFresh, AreCounted, IsCounted, AreCountedBy, all_steps, draw_faults, no_memory}
-use Rattle.dp_session.specs.Needs.{need_of}
-use Rattle.dp_session.specs.Serving.{SessionState, IsEntry, Serves, unread, unstarted, misdated, by_ring, by_place, AnswersByRing, refused, answered as answered_by, undrawn, stopped, lost, unheard, IsByPlace, IsNeed, before, after, Asks}
+use Rattle.dp_answer.specs.Needs.{need_of}
+use Rattle.dp_answer.specs.Serving.{SessionState, IsEntry, Serves, unread, unstarted, misdated, by_ring, by_place, AnswersByRing, refused, answered as answered_by, undrawn, stopped, lost, unheard, IsByPlace, IsNeed, before, after, Asks}
 use Rattle.dp_session.specs.Session.{Chain, front_of, has_list}
-use Rattle.dp_session.proofs.Paths.{placed_last}
+use Rattle.dp_answer.proofs.Paths.{placed_last}
 use Rattle.dp_session.proofs.Sessions.{HasFront, serves_front}
 use Rattle.dp_session.proofs.Sums.{call_noted, call_all_noted, place_noted, place_all_noted}
 

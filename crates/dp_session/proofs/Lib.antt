@@ -1,5 +1,3 @@
-pub mod Paths
-pub mod Answers
 pub mod Sums
 pub mod Taking
 pub mod Drawing
@@ -7,7 +5,6 @@ pub mod Exchanges
 pub mod Sessions
 pub mod Freshness
 pub mod Whole
-pub mod Responses
 pub mod Shut
-pub mod Unsealed
 pub mod Loans
+pub mod Passing

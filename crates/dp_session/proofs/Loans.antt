@@ -6,8 +6,8 @@ use Rattle.repo_keeper.specs.Store.{Store}
 use Rattle.node_calls.specs.HostState.{HostState}
 use Rattle.dp_session.specs.declared.end.BadPlace.{BadPlace}
 use Rattle.dp_session.specs.declared.status.Status.{Status}
-use Rattle.dp_session.specs.declared.trace.Entry.{Entry}
-use Rattle.dp_session.specs.Serving.{state}
+use Rattle.dp_answer.specs.declared.trace.Entry.{Entry}
+use Rattle.dp_answer.specs.Serving.{state}
 use Rattle.dp_session.specs.Session.{Outside, outside, SoFar, IsSession}
 
 pub free_back : {H : Type 0} (host : H → HostState) (h : H) {h' : H} → h' ≡ h → (host h).held ≡ false → (host h').held ≡ false

@@ -24,13 +24,13 @@ use Rattle.dp_session.specs.declared.end.BadPlace.{BadPlace}
 use Rattle.dp_session.specs.declared.end.BadWhy.{BadWhy}
 use Rattle.dp_session.specs.declared.status.Status.{Status}
 use Rattle.dp_session.specs.declared.status.Status.TheVariants as status
-use Rattle.dp_session.specs.declared.trace.Entry.{Entry}
-use Rattle.dp_session.specs.declared.trace.Used.{Used}
-use Rattle.dp_session.specs.declared.trace.Used.TheVariants as used
+use Rattle.dp_answer.specs.declared.trace.Entry.{Entry}
+use Rattle.dp_answer.specs.declared.trace.Used.{Used}
+use Rattle.dp_answer.specs.declared.trace.Used.TheVariants as used
 use Rattle.dp_session.specs.Frames.{frames, AreBodies, RefusesFrame}
-use Rattle.dp_session.specs.Replies.{reply_to}
-use Rattle.dp_session.specs.Serving.{SessionState, IsEntry, Serves, unread, unstarted, misdated, by_ring, by_place, AnswersByRing, IsByPlace, refused, answered, undrawn, stopped, lost, unheard}
-use Rattle.dp_session.proofs.Paths.{own_by_ring, placed_last}
+use Rattle.dp_answer.specs.Replies.{reply_to}
+use Rattle.dp_answer.specs.Serving.{SessionState, IsEntry, Serves, unread, unstarted, misdated, by_ring, by_place, AnswersByRing, IsByPlace, refused, answered, undrawn, stopped, lost, unheard}
+use Rattle.dp_answer.proofs.Paths.{own_by_ring, placed_last}
 use Rattle.dp_session.proofs.Exchanges.{length-frame}
 use Rattle.dp_session.specs.Session.{Chain, front_of, longest, reply_frame, session_output, IsListAfter, Outside, outside, OneMore, has_list, any_list, IsLongest, SoFar, IsSession, NoMore, EndsAt, EndsInput, EndsOutput, IsSpentEnd, bad_at}
 

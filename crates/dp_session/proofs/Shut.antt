@@ -21,11 +21,11 @@ use Rattle.dp_protector.proofs.Taken.{id-shut, record-shut}
 use Rattle.dp_wire.specs.Replies.{reply_body}
 use Rattle.dp_wire.specs.Chains.{used_chain}
 use Rattle.dp_wire.specs.Request.{Request, Ring, Roll, Revoke, RevokeBefore, Protect, Unprotect, ProtectText, UnprotectText, ProtectTimed, UnprotectTimed}
-use Rattle.dp_session.specs.declared.trace.Entry.{Entry}
-use Rattle.dp_session.specs.declared.trace.Used.{Used}
-use Rattle.dp_session.specs.declared.trace.Used.TheVariants as used
-use Rattle.dp_session.specs.Needs.{need_of}
-use Rattle.dp_session.specs.Replies.{answer_by, opened_reply, refusal_reply, reply_to, ring_at, text_reply, timed_reply, unopened_reply}
+use Rattle.dp_answer.specs.declared.trace.Entry.{Entry}
+use Rattle.dp_answer.specs.declared.trace.Used.{Used}
+use Rattle.dp_answer.specs.declared.trace.Used.TheVariants as used
+use Rattle.dp_answer.specs.Needs.{need_of}
+use Rattle.dp_answer.specs.Replies.{answer_by, opened_reply, refusal_reply, reply_to, ring_at, text_reply, timed_reply, unopened_reply}
 use Rattle.dp_session.specs.Fresh.{AreFresh, IsFresh, IsFreshUse}
 use Rattle.dp_session.specs.Session.{front_of, has_list}
 use Rattle.dp_session.specs.Shut.{AreShut, IsShut, IsUnopened, barred_id, known_to}

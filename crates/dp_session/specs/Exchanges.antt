@@ -10,16 +10,16 @@ use Rattle.dp_wire.specs.declared.reply.Reply.TheVariants as replies
 use Rattle.dp_wire.specs.Frame.{frame}
 use Rattle.dp_wire.specs.Reading.{request_at}
 use Rattle.dp_wire.specs.Replies.{reply_body}
-use Rattle.dp_session.specs.declared.response.Response.{Response}
+use Rattle.dp_answer.specs.declared.response.Response.{Response}
 use Rattle.dp_session.specs.declared.reading.Unread.{Unread}
 use Rattle.dp_session.specs.declared.reading.Unread.TheVariants as unread
 use Rattle.dp_session.specs.declared.serving.Halt.{Halt}
 use Rattle.dp_session.specs.declared.serving.Exchange.{Exchange}
 use Rattle.dp_session.specs.declared.status.Status.TheVariants as status
-use Rattle.dp_session.specs.declared.trace.Used.TheVariants as used
-use Rattle.dp_session.specs.Replies.{reply_to}
-use Rattle.dp_session.specs.Needs.{need_of}
-use Rattle.dp_session.specs.Serving.{SessionState, Serves, before, after, IsNeed, IsListOf}
+use Rattle.dp_answer.specs.declared.trace.Used.TheVariants as used
+use Rattle.dp_answer.specs.Replies.{reply_to}
+use Rattle.dp_answer.specs.Needs.{need_of}
+use Rattle.dp_answer.specs.Serving.{SessionState, Serves, before, after, IsNeed, IsListOf}
 
 -- the exchange of a request that was answered, or found no memory
 abbrev pub exchange_of : Result Response Memory → ℕ → ℕ → ℕ → List Step → List ℕ → Exchange

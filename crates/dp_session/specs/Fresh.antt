@@ -9,10 +9,10 @@ use Rattle.node_calls.specs.HostState.{latest}
 use Rattle.node_calls.specs.declared.error.NodeError.{NodeError}
 use Rattle.node_calls.specs.declared.error.NodeError.TheVariants as errors
 use Rattle.node_calls.specs.Gather.{refusal}
-use Rattle.dp_session.specs.declared.trace.Entry.{Entry}
-use Rattle.dp_session.specs.declared.trace.Used.{Used}
-use Rattle.dp_session.specs.declared.trace.Used.TheVariants as used
-use Rattle.dp_session.specs.Serving.{SessionState}
+use Rattle.dp_answer.specs.declared.trace.Entry.{Entry}
+use Rattle.dp_answer.specs.declared.trace.Used.{Used}
+use Rattle.dp_answer.specs.declared.trace.Used.TheVariants as used
+use Rattle.dp_answer.specs.Serving.{SessionState}
 use Rattle.dp_session.specs.Session.{front_of}
 
 -- a ring has as many elements as were needed, and as were seen before; what is placed needs none, and

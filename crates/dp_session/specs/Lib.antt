@@ -1,10 +1,4 @@
 pub mod Statuses
-pub mod Needs
-pub mod Replies
-pub mod Serving
-pub mod Responding
-pub mod Sought
-pub mod Calls
 pub mod Frames
 pub mod Session
 pub mod Loans

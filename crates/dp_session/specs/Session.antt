@@ -1,5 +1,5 @@
 -- A session: requests served one after the other, and what comes in and goes out.
-use Rattle.std.specs.Prelude.{◌≡◌, ℕ, Bool, true, false, ◌||◌, ◌+◌, ◌≤◌, max, List, [], ◌∷◌, ◌++◌, length, take, drop, Option, Some, None, IfSome, IsSome}
+use Rattle.std.specs.Prelude.{◌≡◌, ℕ, Bool, true, false, ◌||◌, ◌+◌, ◌<◌, ◌≤◌, max, List, [], ◌∷◌, ◌++◌, length, take, drop, Option, Some, None, IfSome, IsSome}
 use Rattle.key_elements.specs.declared.element.Element.{Element}
 use Rattle.key_elements.specs.Lists.{Extends}
 use Rattle.dp_base.specs.Transfer.{Writes, WritesFront}
@@ -9,13 +9,13 @@ use Rattle.dp_session.specs.declared.end.BadPlace.{BadPlace}
 use Rattle.dp_session.specs.declared.end.BadWhy.{BadWhy}
 use Rattle.dp_session.specs.declared.status.Status.{Status}
 use Rattle.dp_session.specs.declared.status.Status.TheVariants as status
-use Rattle.dp_session.specs.declared.trace.Entry.{Entry}
-use Rattle.dp_session.specs.declared.trace.Used.{Used}
-use Rattle.dp_session.specs.declared.trace.Used.TheVariants as used
+use Rattle.dp_answer.specs.declared.trace.Entry.{Entry}
+use Rattle.dp_answer.specs.declared.trace.Used.{Used}
+use Rattle.dp_answer.specs.declared.trace.Used.TheVariants as used
 use Rattle.std.specs.Io.KnownBytes.{Consumes}
 use Rattle.dp_session.specs.Frames.{frames, AreBodies, RefusesFrame, TakesPart}
-use Rattle.dp_session.specs.Replies.{reply_to}
-use Rattle.dp_session.specs.Serving.{SessionState, IsEntry}
+use Rattle.dp_answer.specs.Replies.{reply_to}
+use Rattle.dp_answer.specs.Serving.{SessionState, IsEntry}
 
 -- the most requests of a session
 abbrev pub MOST : ℕ
@@ -165,6 +165,10 @@ EndsInput status.Spent bad place left after =
 abbrev pub bad_at : Option BadWhy → ℕ → Option BadPlace
 bad_at (Some why) place = Some (record { place = place; why = why })
 bad_at None place = None
+
+-- so many requests passed a gate, each under its number, from 0
+abbrev pub HavePassed : (ℕ → Type 0) → ℕ → Type 0
+HavePassed passed count = (call : ℕ) → call < count → passed call
 
 -- how a session ends after its last request: nothing was left, a read failed, or more was left
 abbrev pub IsSpentEnd : Status → Type 0

@@ -8,8 +8,8 @@ use Rattle.dp_protector.specs.Opening.{id_in}
 use Rattle.dp_protector.specs.Text.{payload_of}
 use Rattle.dp_wire.specs.Reading.{request_at}
 use Rattle.dp_wire.specs.Request.{Request, Unprotect, UnprotectText, UnprotectTimed}
-use Rattle.dp_session.specs.declared.trace.Entry.{Entry}
-use Rattle.dp_session.specs.Replies.{reply_to}
+use Rattle.dp_answer.specs.declared.trace.Entry.{Entry}
+use Rattle.dp_answer.specs.Replies.{reply_to}
 use Rattle.dp_session.specs.Session.{front_of}
 
 -- the id in the payload that a request is to open, where it doesn't allow revoked keys

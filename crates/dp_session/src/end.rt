@@ -1,7 +1,7 @@
 //! How a session ends.
 
 use crate::status::Status;
-use crate::trace::Trace;
+use dp_answer::Trace;
 use key_elements::ElementRefused;
 
 /// What is wrong with input.

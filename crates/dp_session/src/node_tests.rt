@@ -95,17 +95,17 @@ impl Node {
 
 // The reply of the first of ROWS without its frame, status and number of elements: the payload of no
 // bytes under code 3.
-const EMPTY_SEALED: &str = "09F0C9F000000000000000408000000000000000\
+pub(crate) const EMPTY_SEALED: &str = "09F0C9F000000000000000408000000000000000\
     0000000000000000000000000000000000000000000000000000000000000000D0AD7DFF99C4C6E4\
     90DB8E6FFC9C8AAE935588C75ABAA2083558145A94543DB3CCFED3D00F1054C861780AFE0B2CFB66";
 
 // Whether the answer is by the ring of one key, and holds these bytes.
-fn is_sealed(answered: &Answered<Vec<u8>>, sealed: &[u8]) -> bool {
+pub(crate) fn is_sealed(answered: &Answered<Vec<u8>>, sealed: &[u8]) -> bool {
     (answered.front, answered.made_at) == (1, DAY_0) && answered.value.as_slice() == sealed
 }
 
 // Whether the answer is by the ring of one key, and tells no bytes under a key that protects.
-fn is_opened(answered: &Answered<Opened>) -> bool {
+pub(crate) fn is_opened(answered: &Answered<Opened>) -> bool {
     let opened = &answered.value;
     (answered.front, answered.made_at) == (1, DAY_0)
         && opened.plain.is_empty()

@@ -12,19 +12,17 @@ ghost use Rattle.dp_wire.specs.Request.{request_of, IsRequest};
 ghost use Rattle.dp_session.specs.declared.status.Status.TheVariants.{ReadFault, WriteFault};
 ghost use Rattle.dp_session.specs.Frames.{IsKept, Reads};
 ghost use Rattle.dp_session.specs.Session.{EndsAt, OneMore, OneServed, outside};
-ghost use Rattle.dp_session.specs.Needs.{IsShort};
+ghost use Rattle.dp_answer.specs.Needs.{IsShort};
 ghost use Rattle.dp_session.specs.Loans.{SameSession, standing};
-ghost use Rattle.dp_session.specs.Serving.{Served, after, before};
+ghost use Rattle.dp_answer.specs.Serving.{Served, after, before};
 ghost use Rattle.dp_session.specs.Exchanges.{exchange_of, reply_bytes, list_after, halt_of, IsExchange};
 
-use crate::answer::answer;
-use crate::app::Setting;
 use crate::end::BadWhy;
-use crate::needs::need_of;
+use crate::gate::Gate;
+use crate::log::Log;
 use crate::reading::{Body, Frame, Unread, read_frame};
-use crate::response::Response;
 use crate::status::Status;
-use crate::trace::{Drawn, Entry, Log, Used};
+use dp_answer::{Drawn, Entry, Response, Setting, Used, answer, need_of};
 use dp_base::{Clock, Draw, Failed, LAST, Memory, Sink, Source, Taped, write_all};
 use dp_node::{Host, HostView, Lent};
 use dp_wire::{BadRequest, RequestView, no_memory_frame};
@@ -56,15 +54,19 @@ pub(crate) struct Exchange {
     pub list: Option<ElementList>,
 }
 
-/// What a session is lent, beside its input and its output, and what its requests are answered under.
+/// What a session is lent, beside its input and its output, what its requests are answered under, and
+/// the number, from 0, of the next one.
 #[derive(Drop)]
-pub(crate) struct Session<'w, 'h, 'r, 'd, 'c, 'a, W, H, R, D, C> {
+pub(crate) struct Session<'w, 'h, 'r, 'd, 'c, 'a, W, H, R, D, C, G> {
     pub w: &'w mut W,
     pub alloc: Global,
     pub host: &'h mut H,
     pub repo: &'r mut R,
     pub draw: &'d mut D,
     pub clock: &'c mut C,
+    pub gate: &'a G,
+    pub worker: u32,
+    pub call: u64,
     pub setting: Setting<'a>,
 }
 
@@ -178,7 +180,20 @@ fn unread(why: Unread) -> Halt
     }
 }
 
-impl<W, H: Host<W>, R: Repo<W>, D: Draw, C: Clock> Session<'_, '_, '_, '_, '_, '_, W, H, R, D, C> {
+impl<W, H: Host<W>, R: Repo<W>, D: Draw, C: Clock, G: Gate<W>> Session<
+    '_,
+    '_,
+    '_,
+    '_,
+    '_,
+    '_,
+    W,
+    H,
+    R,
+    D,
+    C,
+    G,
+> {
     // Serves a request, and tells the bytes that it drew.
     fn answer_told(
         &mut self,
@@ -209,8 +224,10 @@ impl<W, H: Host<W>, R: Repo<W>, D: Draw, C: Clock> Session<'_, '_, '_, '_, '_, '
         (answered, drawn)
     }
 
-    // Serves the request of a body at the moment, in ticks; a body that isn't kept finds no memory.
+    // Serves the request of a body at the moment, in ticks, behind the gate; a body that isn't kept
+    // finds no memory.
     fn serve_body(&mut self, now: u64, body: &Option<Vec<u8>>, steps: StepList) -> Exchange
+        requires passed { G.passed self.old.gate.now self.old.worker self.old.call }
         requires moment { now ≤ LAST }
         requires body { IfSome body.now (λ bytes. length bytes.items ≤ MAX_BODY) }
         requires free { (H.state self.old.host.now).held ≡ false }
@@ -236,7 +253,8 @@ impl<W, H: Host<W>, R: Repo<W>, D: Draw, C: Clock> Session<'_, '_, '_, '_, '_, '
         }
     }
 
-    // Serves the request of a body, keeps its entry and its list, and writes its reply.
+    // Passes the gate, which may take long, asks the clock, serves the request of a body, keeps its
+    // entry and its list, and writes its reply.
     fn serve_frame<O: Sink>(
         &mut self,
         output: &mut O,
@@ -260,11 +278,13 @@ impl<W, H: Host<W>, R: Repo<W>, D: Draw, C: Clock> Session<'_, '_, '_, '_, '_, '
             (C.moments self.old.clock.now) self.old) log.old.entries.items log.old.list)
             (outside None (O.written output.new) (standing H.state R.store D.draws
             (C.moments self.new.clock.now) self.new) log.new.entries.items log.new.list)) }
+        ensures passed { G.passed self.old.gate.now self.old.worker self.old.call }
         ensures free { (H.state self.new.host.now).held ≡ false }
         ensures no_fault { OnOk result (O.faults output.new ≡ O.faults output.old) }
         ensures fault { OnErr result (O.faults output.new ≡ one_more (O.faults output.old)) }
         ensures loans { SameSession self.old self.new }
     {
+        self.gate.pass(self.w, self.worker, self.call);
         let now = self.clock.now().min(LAST);
         let turn = self.serve_body(now, &body.kept, steps);
         let Exchange {
@@ -277,7 +297,8 @@ impl<W, H: Host<W>, R: Repo<W>, D: Draw, C: Clock> Session<'_, '_, '_, '_, '_, '
         put_frame(output, &reply)
     }
 
-    /// Reads a frame, serves its request, writes its reply, and answers how many bytes the frame had.
+    /// Reads a frame, passes the gate, serves the request, writes its reply, and answers how many bytes
+    /// the frame had.
     pub(crate) fn serve_one<I: Source, O: Sink>(
         &mut self,
         input: &mut I,
@@ -295,6 +316,10 @@ impl<W, H: Host<W>, R: Repo<W>, D: Draw, C: Clock> Session<'_, '_, '_, '_, '_, '
             (C.moments self.old.clock.now) self.old) log.old.entries.items log.old.list)
             (outside (I.left input.new) (O.written output.new) (standing H.state R.store D.draws
             (C.moments self.new.clock.now) self.new) log.new.entries.items log.new.list)) }
+        ensures passed { MatchResult result
+            (λ _. G.passed self.old.gate.now self.old.worker self.old.call)
+            (λ halt. halt.status ≡ WriteFault
+            → G.passed self.old.gate.now self.old.worker self.old.call) }
         ensures free { (H.state self.new.host.now).held ≡ false }
         ensures read_fault { IfErr result (λ halt. halt.status ≡ ReadFault
             → I.faults input.new ≡ one_more (I.faults input.old)) }

@@ -6,14 +6,15 @@ ghost use Rattle.dp_session.specs.declared.status.Status.TheVariants.{BadInput, 
 ghost use Rattle.dp_session.specs.Frames.{AreWhole};
 ghost use Rattle.dp_session.specs.Fresh.{AreFresh, AreCountedBy};
 ghost use Rattle.dp_session.specs.Shut.{AreShut};
-ghost use Rattle.dp_session.specs.Serving.{state};
-ghost use Rattle.dp_session.specs.Session.{EndsInput, IsSpentEnd, IsSession, bad_at, outside};
+ghost use Rattle.dp_answer.specs.Serving.{state};
+ghost use Rattle.dp_session.specs.Session.{EndsInput, HavePassed, IsSpentEnd, IsSession, bad_at, outside};
 
-use crate::app::{Setting, Setup};
 use crate::end::{BadPlace, SessionEnd};
+use crate::gate::Gate;
+use crate::log::Log;
 use crate::serving::{Halt, Session};
 use crate::status::Status;
-use crate::trace::Log;
+use dp_answer::{Setting, Setup};
 use dp_base::{Clock, Draw, Sink, Source, read_full};
 use dp_encryptor::HeaderTable;
 use dp_node::{Host, HostView};
@@ -50,16 +51,19 @@ fn end_of_spent<I: Source>(input: &mut I) -> Status
 }
 
 /// Serves the requests of the input, one after the other: each reply is handed to the output before
-/// the next frame is read.
+/// the next frame is read. Each passes the gate before it is served, under the worker's number and its
+/// own, from 0.
 ///
 /// What source and sink hold is told of those that tell their bytes, as the ones in memory do.
-pub fn serve_session<W, H: Host<W>, R: Repo<W>, D: Draw, C: Clock, I: Source, O: Sink>(
+pub fn serve_session<W, H: Host<W>, R: Repo<W>, D: Draw, C: Clock, G: Gate<W>, I: Source, O: Sink>(
     w: &mut W,
     alloc: Global,
     host: &mut H,
     repo: &mut R,
     draw: &mut D,
     clock: &mut C,
+    gate: &G,
+    worker: u32,
     setup: &Setup,
     headers: &HeaderTable,
     input: &mut I,
@@ -89,6 +93,8 @@ pub fn serve_session<W, H: Host<W>, R: Repo<W>, D: Draw, C: Clock, I: Source, O:
     ensures shut { (bodies : List (List ℕ)) → AreShut setup.now.app bodies result.trace.entries
         result.trace.list }
 
+    // Every request that was served passed the gate, under its number.
+    ensures passed { HavePassed (G.passed gate.now worker) (length result.trace.entries) }
     ensures few { length result.trace.entries ≤ MAX_REQUESTS }
     ensures spent { result.status ≡ Spent → length result.trace.entries ≡ MAX_REQUESTS }
 
@@ -118,7 +124,7 @@ pub fn serve_session<W, H: Host<W>, R: Repo<W>, D: Draw, C: Clock, I: Source, O:
     };
     let mut log = Log::new(alloc);
     let mut place = 0;
-    'requests: for _ in 0..MAX_REQUESTS {
+    'requests: for call in 0..MAX_REQUESTS {
         let mut session = Session {
             w: &mut *w,
             alloc,
@@ -126,6 +132,9 @@ pub fn serve_session<W, H: Host<W>, R: Repo<W>, D: Draw, C: Clock, I: Source, O:
             repo: &mut *repo,
             draw: &mut *draw,
             clock: &mut *clock,
+            gate,
+            worker,
+            call,
             setting,
         };
         match session.serve_one(input, output, &mut log) {

@@ -1,13 +1,15 @@
 use super::*;
 use default_key::Options;
-use dp_base::{AesSize, Alg, MemClock, MemDraw, MemSink, MemSource};
+use dp_base::{AesSize, Alg, Clock, MemClock, MemDraw, MemSink, MemSource};
 use dp_encryptor::HeaderTable;
 use dp_node::{NodeError, Solo};
 use dp_protector::{ProtectRefused, UnprotectRefused};
 use key_elements::{Element, ElementList, Reason, encode, read_list};
+use key_ring::Why;
 use repo_keeper::{MemKeeper, OwnRepo};
 use ring_world::Step;
 use std::alloc::Global;
+use std::cell::Cell;
 use std::test::Fail;
 
 pub(crate) const DAY_0: u64 = 638_000_000_000_000_000;
@@ -69,7 +71,7 @@ fn put_revocation(alloc: Global, bytes: &mut Vec<u8>) -> Result<(), Fail> {
 }
 
 // So many mass revocations.
-fn revocations(alloc: Global, count: usize) -> Result<ElementList, Fail> {
+pub(crate) fn revocations(alloc: Global, count: usize) -> Result<ElementList, Fail> {
     let mut bytes = Vec::new(alloc);
     for _ in 0..count {
         put_revocation(alloc, &mut bytes)?;
@@ -111,15 +113,16 @@ fn sink_of(alloc: Global, outside: &Outside<'_>) -> Result<MemSink, Fail> {
     Ok(MemSink::new(alloc, outside.piece.max(1), fails))
 }
 
-// How a session over the list ends, and what it wrote.
-fn session(
+// How a session over the list ends, behind the gate, and what it wrote.
+fn session_behind<C: Clock, G: Gate<()>>(
     alloc: Global,
+    clock: &mut C,
+    gate: &G,
     input: Vec<u8>,
     outside: &Outside<'_>,
 ) -> Result<(SessionEnd, Vec<u8>), Fail> {
     let mut source = source_of(alloc, input, outside)?;
     let mut sink = sink_of(alloc, outside)?;
-    let mut clock = MemClock::new([DAY_0].to_vec(alloc)?);
     let setup = setup_of(alloc, outside.app)?;
     let mut draw = zeros(alloc, outside.draws)?;
     let mut repo = repo_of(alloc, revocations(alloc, outside.list)?, outside.keeps)?;
@@ -131,13 +134,25 @@ fn session(
         &mut solo,
         &mut repo,
         &mut draw,
-        &mut clock,
+        clock,
+        gate,
+        7,
         &setup,
         &headers,
         &mut source,
         &mut sink,
     );
     Ok((end, sink.into_bytes()))
+}
+
+// The same where nothing is passed, at day 0.
+fn session(
+    alloc: Global,
+    input: Vec<u8>,
+    outside: &Outside<'_>,
+) -> Result<(SessionEnd, Vec<u8>), Fail> {
+    let mut clock = MemClock::new([DAY_0].to_vec(alloc)?);
+    session_behind(alloc, &mut clock, &NoGate, input, outside)
 }
 
 // How a session ends, and whether it wrote what was wanted.
@@ -333,6 +348,71 @@ fn faults(rt: HostRuntime) -> Result<(), Fail> {
     Ok(())
 }
 
+// A gate that counts the calls of worker 7 that pass in order; another one spoils the count.
+#[derive(Drop)]
+struct Counting<'a> {
+    passed: &'a Cell<u64>,
+}
+
+impl<W> Gate<W> for Counting<'_> {
+    fn pass(&self, _w: &mut W, worker: u32, call: u64) {
+        let next = self.passed.get();
+        let count = if worker == 7 && call == next {
+            next.saturating_add(1)
+        } else {
+            1_000_000
+        };
+        self.passed.set(count);
+    }
+}
+
+// A clock that shows how many calls have passed.
+#[derive(Drop)]
+struct Passed<'a> {
+    passed: &'a Cell<u64>,
+}
+
+impl Clock for Passed<'_> {
+    ghost moments = { λ _. None };
+
+    fn now(&mut self) -> u64 {
+        self.passed.get()
+    }
+}
+
+// The moment of each entry of a session behind the gate, in order, and how many calls passed.
+fn moments_behind(alloc: Global, input: &str) -> Result<(Vec<u64>, u64), Fail> {
+    let passed = Cell::new(0);
+    let gate = Counting { passed: &passed };
+    let mut clock = Passed { passed: &passed };
+    let input = bytes_of(alloc, input)?;
+    let (end, _written) = session_behind(alloc, &mut clock, &gate, input, &WELL)?;
+    let entries = end.trace.entries.as_slice();
+    let moments = entries.iter().map(|entry| entry.now).collect(alloc)?;
+    Ok((moments, passed.get()))
+}
+
+// Each whole frame passes the gate once, in order and before it is served, one that is no request too;
+// what is no whole frame doesn't pass.
+#[test]
+fn gated(rt: HostRuntime) -> Result<(), Fail> {
+    let table: [(&str, &[u64]); 4] = [
+        ("", &[]),
+        ("00000000", &[]),
+        ("00000001 0C 00000009 01", &[1]),
+        (
+            "00000001 0C 00000009 01 0000000000000000 00000001 0C",
+            &[1, 2, 3],
+        ),
+    ];
+    for (input, moments) in table {
+        let (shown, passed) = moments_behind(rt.alloc(), input)?;
+        assert_eq!(rt; shown.as_slice(), moments, "{input}");
+        assert_eq!(rt; passed, moments.len() as u64, "{input}");
+    }
+    Ok(())
+}
+
 // docs/FORMATS.md, "Statuses".
 #[test]
 fn statuses(rt: HostRuntime) {
@@ -390,6 +470,10 @@ fn phrases(rt: HostRuntime) -> Result<(), Fail> {
         (
             CallRefused::Node(NodeError::Full { count: 5 }),
             "the repository is full with 5 elements",
+        ),
+        (
+            CallRefused::Due(Why::Wanted { want: 2, held: 1 }),
+            "the ring is due",
         ),
         (
             CallRefused::Protect {

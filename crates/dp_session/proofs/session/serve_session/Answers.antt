@@ -5,6 +5,7 @@ use Rattle.dp_session.proofs.Shut.{are_shut}
 use Rattle.dp_session.proofs.Whole.{whole_input, spent_bad}
 use Rattle.dp_session.proofs.Sessions.{so_far-none, so_far-more, session_ends, session_spent, frame-bound, entries-more, ends-few, ends-same, ends-spent, ends-bad}
 use Rattle.dp_session.proofs.Loans.{free_back, so_far_back, session_back}
+use Rattle.dp_session.proofs.Passing.{passed-none, passed-more, passed-ends}
 use Rattle.dp_session.proofs.session.serve_session.Goals as goal
 
 pub requests-init : goal.requests-init
@@ -13,6 +14,7 @@ requests-init g c = record {
   free = c.requires.free;
   count = ap length c.new-log.ensures.entries;
   room = omega arith;
+  passed = passed-none _;
   no_read_fault = refl;
   no_write_fault = refl;
 }
@@ -23,6 +25,7 @@ requests-preserved g c = record {
   free = free_back g.H.HostView.state c.serve_one.new.self.host.now (search rules) c.in-Ok.ensures.free;
   count = omega (arith, entries-more _ _ _ c.in-Ok.len c.in-Ok.ensures.ok, c.requests.invariant.count);
   room = omega (arith, frame-bound _ _ _ c.in-Ok.len c.in-Ok.ensures.ok, c.requests.invariant.room);
+  passed = passed-more _ _ c.requests.invariant.passed c.in-Ok.ensures.passed;
   no_read_fault = c.in-Ok.ensures.no_read_fault ∙ c.requests.invariant.no_read_fault;
   no_write_fault = c.in-Ok.ensures.no_write_fault ∙ c.requests.invariant.no_write_fault;
 }
@@ -53,6 +56,14 @@ returns-in-Err-clause-write_fault g c = λ e. c.in-Err.ensures.write_fault e ∙
 
 pub returns-in-Err-clause-no_write_fault : goal.returns-in-Err-clause-no_write_fault
 returns-in-Err-clause-no_write_fault g c = λ e. c.in-Err.ensures.no_write_fault e ∙ c.requests.invariant.no_write_fault
+
+pub returns-in-Err-clause-passed : goal.returns-in-Err-clause-passed
+returns-in-Err-clause-passed g c =
+    rw c.into_trace.ensures.entries (passed-ends _ c.in-Err.halt.status c.in-Err.halt.bad _ _ (g.G.Gate.passed c.args.gate.now c.args.worker) _ c.in-Err.ensures.err c.requests.invariant.count c.requests.invariant.passed c.in-Err.ensures.passed)
+
+pub returns-clause-passed : goal.returns-clause-passed
+returns-clause-passed g c =
+    rw (c.into_trace-2.ensures.entries, c.requests.invariant.count) c.requests.invariant.passed
 
 pub returns-clause-session : goal.returns-clause-session
 returns-clause-session g c =

@@ -1,7 +1,7 @@
 -- the requests so far were served, one a turn
 use Rattle.std.proofs.Common.{◌≡◌, ◌≤◌, ◌*◌, false, [], length}
-use Rattle.dp_session.specs.Serving.{state}
-use Rattle.dp_session.specs.Session.{outside, SoFar}
+use Rattle.dp_answer.specs.Serving.{state}
+use Rattle.dp_session.specs.Session.{outside, HavePassed, SoFar}
 use Rattle.dp_session.proofs.session.serve_session.Given as goal
 
 abbrev pub invariant-requests : goal.invariant-requests
@@ -15,6 +15,7 @@ invariant-requests g l = record {
   free : (g.H.HostView.state l.host).held ≡ false;
   count : length l.log.entries.items ≡ l.counter;
   room : l.place ≤ 1048580 * l.counter;
+  passed : HavePassed (g.G.Gate.passed l.fn.gate l.fn.worker) l.counter;
   no_read_fault : g.I.Source.faults l.input ≡ g.I.Source.faults l.fn.input;
   no_write_fault : g.O.Sink.faults l.output ≡ g.O.Sink.faults l.fn.output;
 }

@@ -2,7 +2,7 @@ use Rattle.std.proofs.Common.{◌≡◌, ◌∙◌, length, ap}
 use Rattle.dp_base.specs.Readers.{seen}
 use Rattle.dp_wire.specs.Reading.{request_at}
 use Rattle.dp_wire.specs.Request.{request_of}
-use Rattle.dp_session.specs.Needs.{need_of}
+use Rattle.dp_answer.specs.Needs.{need_of}
 use Rattle.dp_session.proofs.Exchanges.{answered_exchange}
 use Rattle.dp_session.proofs.serving.Session.serve_body.Goals as goal
 

@@ -1,0 +1,4 @@
+pub mod Paths
+pub mod Answers
+pub mod Responses
+pub mod Unsealed

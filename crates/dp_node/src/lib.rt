@@ -5,6 +5,7 @@
 mod node;
 mod pass;
 mod solo;
+mod witness;
 
 pub use node::Node;
 pub use node_calls::{

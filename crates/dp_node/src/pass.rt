@@ -9,6 +9,7 @@ ghost use Rattle.swap_cell.specs.Cells.{setter_cell, viewer_cell};
 ghost use Rattle.flight_turn.specs.Seats.{IsSeatOf, holds, number, turn_mark};
 ghost use Rattle.dp_node.specs.Floor.{floor_of, IsLedBy};
 
+use crate::witness::Witness;
 use dp_base::{Grows, Memory};
 use flight_turn::{Busy, Turn, TurnSeat};
 use key_elements::ElementList;
@@ -16,7 +17,6 @@ use key_ring::Ring;
 use node_calls::{Acts, Host, HostView, NodeFacts, ToldRefused, fork, look_step};
 use ring_world::Step;
 use std::alloc::Global;
-use std::snapshot::Snapshot;
 use std::sync::{Arc, Wait};
 use swap_cell::{Setter, Viewer};
 
@@ -26,7 +26,7 @@ pub(crate) struct Notes {
     pub facts: NodeFacts,
     pub own: ElementList,
     // The ring last looked at or published.
-    pub looked: Snapshot<Ring>,
+    pub looked: Witness<Ring>,
     pub acts: Acts,
 }
 
@@ -80,7 +80,7 @@ impl Pass {
             notes: Notes {
                 facts,
                 own: ring.list().share()?,
-                looked: Snapshot::of(ring),
+                looked: Witness::of(ring),
                 acts: Acts::new(),
             },
             viewer,
@@ -124,7 +124,7 @@ impl HostView for Pass {
     fn look(&mut self) -> Result<Ring, Memory> {
         match self.viewer.look() {
             Ok(ring) => {
-                self.notes.looked = Snapshot::of(&ring);
+                self.notes.looked = Witness::of(&ring);
                 self.notes.acts.push(look_step(&ring));
                 Ok(ring)
             }
@@ -199,7 +199,7 @@ impl<W: Wait> Host<W> for Pass {
         let Some(setter) = &mut self.setter else {
             unreachable!()
         };
-        let looked = Snapshot::of(&ring);
+        let looked = Witness::of(&ring);
         let act = Step::Publish {
             front: ring.list().len(),
             until: ring.until(),

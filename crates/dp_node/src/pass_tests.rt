@@ -1,4 +1,6 @@
-// Passes of one node, on one thread.
+// Passes of one node, on one thread and on many.
+ghost use Rattle.std.specs.Prelude.{◌≤◌};
+
 use super::*;
 use default_key::Options;
 use dp_base::{AesSize, Alg, KeyId, LAST, MemDraw, Memory, TICKS_PER_DAY};
@@ -9,6 +11,7 @@ use ring_world::{Step, StepList};
 use std::alloc::Global;
 use std::sync::Wait;
 use std::test::Fail;
+use std::thread;
 
 const DAY_0: u64 = 638_000_000_000_000_000;
 
@@ -55,13 +58,20 @@ impl Store {
         })
     }
 
-    // A node over it that is opened on day 0.
-    fn open<W: Wait>(&mut self, w: &mut W) -> Result<Pair, Fail> {
+    // The passes of a node over it that is opened on day 0.
+    fn open_all<W: Wait>(&mut self, w: &mut W, passes: u32) -> Result<Vec<Pass>, Fail>
+        requires { (1 ≤ passes) × (passes ≤ 64) }
+    {
         let options = Options::new(90, false, Alg::Cbc256(AesSize::A256)).map_err(|_| "options")?;
         let alloc = self.alloc;
         let repo = &mut self.repo;
         let draw = &mut self.draw;
-        let mut passes = Node::open(w, alloc, repo, draw, DAY_0, 3, 2, options)?;
+        Ok(Node::open(w, alloc, repo, draw, DAY_0, 3, passes, options)?)
+    }
+
+    // The two passes of a node.
+    fn open<W: Wait>(&mut self, w: &mut W) -> Result<Pair, Fail> {
+        let mut passes = self.open_all(w, 2)?;
         let Some(first) = passes.pop() else {
             return Err("no first pass".into());
         };
@@ -321,6 +331,61 @@ fn without_waiting(mut rt: HostRuntime) -> Result<(), Fail> {
     let until = DAY_0 + TICKS_PER_DAY;
     let why = Why::Ended { until, now: until };
     assert_eq!(rt; found_now(&mut rt, alloc)?, (1, why));
+    Ok(())
+}
+
+// A pass that goes to a thread of its own, with what its calls are lent there.
+#[derive(Drop)]
+struct Worker {
+    store: Store,
+    pass: Pass,
+}
+
+impl Worker {
+    // How many elements a call finds that needs three, after a look that needs two.
+    fn find<W: Wait>(mut self, w: &mut W) -> Option<u64> {
+        let now = DAY_0;
+        let _shown = ring_now(&mut self.pass, At { now, need: 2 }).ok()?;
+        if self.pass.held() {
+            return None;
+        }
+        let alloc = self.store.alloc;
+        let pass = &mut self.pass;
+        let repo = &mut self.store.repo;
+        let draw = &mut self.store.draw;
+        let mut steps = StepList::with_room(alloc).ok()?;
+        let at = At { now, need: 3 };
+        let ring = ring_for(w, alloc, pass, repo, draw, at, None, &mut steps).ok()?;
+        Some(ring.list().len())
+    }
+}
+
+// The 64 passes of a node of two elements, each with a repository in which a third one stands.
+fn workers<W: Wait>(w: &mut W, alloc: Global) -> Result<Vec<Worker>, Fail> {
+    let mut node = Store::new(alloc, &[1, 2], Vec::new(alloc))?;
+    let mut workers = Vec::new(alloc);
+    for pass in node.open_all(w, 64)? {
+        let store = Store::new(alloc, &[1, 2, 3], Vec::new(alloc))?;
+        workers.push(Worker { store, pass })?;
+    }
+    Ok(workers)
+}
+
+// On a thread of its own each pass comes to the third element: one that has the turn publishes it,
+// and one that meets the holder reads alone.
+#[test]
+fn each_on_its_thread(mut rt: HostRuntime) -> Result<(), Fail> {
+    let alloc = rt.alloc();
+    let workers = workers(&mut rt, alloc)?;
+    let find = |worker: Worker| {
+        let mut rt = rt;
+        worker.find(&mut rt)
+    };
+    let found = thread::map_vec(&rt, workers, &find)?;
+    assert_eq!(rt; found.len(), 64);
+    for count in found.as_slice() {
+        assert_eq!(rt; *count, Some(3));
+    }
     Ok(())
 }
 

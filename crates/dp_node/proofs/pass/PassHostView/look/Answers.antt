@@ -12,7 +12,7 @@ invariant_of-self c =
       seated = me.seated;
       numbered = me.numbered;
       cell = me.cell ∙ sym c.look.ensures.cell;
-      line = rw c.of.ensures (line_look v w c.in-Ok.ring c.in-Ok.ensures.looked);
+      line = rw c.of-self.ensures (line_look v w c.in-Ok.ring c.in-Ok.ensures.looked);
       holds = me.holds;
       leads = λ s e. led_up v w s c.look.ensures.cell up (me.leads s e);
     }
@@ -38,7 +38,7 @@ returns-in-Ok-clause-ok c =
     let me = c.args.self.now in λ i. record {
       facts = me.notes.facts;
       own = me.notes.own;
-      looked = c.of.ensures i;
+      looked = c.of-self.ensures i;
       held = is_some me.setter;
       floor = floor_look me.viewer c.look.new.self c.in-Ok.ring c.in-Ok.ensures.looked i;
       acts = (c.push.ensures ∙ ap (λ a. latest (me.notes.acts ++ a ∷ [])) c.look_step.ensures) i;

@@ -4,6 +4,10 @@
 mod auditing;
 mod differs;
 #[cfg(test)]
+mod node_tests;
+#[cfg(test)]
+mod pass_tests;
+#[cfg(test)]
 mod tests;
 
 pub use auditing::{AuditFork, audit};

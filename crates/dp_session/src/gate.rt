@@ -1,10 +1,12 @@
 //! What each request of a session passes before it is served.
 
+ghost use Rattle.std.specs.Prelude.{ℕ};
+
 /// A gate, which may count those who pass, or hold them for as long as `W` lets it wait.
 pub trait Gate<W> {
     // The call with this number, from 0, of the session of this worker passed. Nothing but a pass
     // tells it of a gate that isn't known.
-    ghost passed: { Self → ℕ → ℕ → Type 0 } = { λ _ _ _. ⊤ };
+    ghost passed: { Self → ℕ → ℕ → Type 0 } = { λ _ _ _. Unit {0} };
 
     /// Passes, for a call of the session of the worker. Calls have numbers from 0.
     fn pass(&self, w: &mut W, worker: u32, call: u64)

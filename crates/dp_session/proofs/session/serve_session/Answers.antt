@@ -31,7 +31,7 @@ requests-preserved g c = record {
 }
 
 pub overflow_add-place : goal.overflow_add-place
-overflow_add-place g c = omega (arith, c.requests.invariant.room, frame-bound _ _ _ c.in-Ok.len c.in-Ok.ensures.ok, c.requests.auto.counter-end)
+overflow_add-place g c = omega (arith, c.requests.invariant.room, frame-bound _ _ _ c.in-Ok.len c.in-Ok.ensures.ok, c.requests.auto.call-end)
 
 pub returns-in-Err-clause-session : goal.returns-in-Err-clause-session
 returns-in-Err-clause-session g c =
@@ -70,10 +70,10 @@ returns-clause-session g c =
     rw (c.into_trace-2.ensures.entries, c.into_trace-2.ensures.list) (session_spent _ c.end_of_spent.result _ _ _ c.requests.place c.requests.invariant.so_far c.end_of_spent.ensures.status c.end_of_spent.ensures.ends)
 
 pub returns-clause-few : goal.returns-clause-few
-returns-clause-few g c = omega (arith, ap length c.into_trace-2.ensures.entries, c.requests.invariant.count, c.requests.auto.counter-end)
+returns-clause-few g c = omega (arith, ap length c.into_trace-2.ensures.entries, c.requests.invariant.count, c.requests.auto.call-end)
 
 pub returns-clause-spent : goal.returns-clause-spent
-returns-clause-spent g c = λ e. omega (arith, ap length c.into_trace-2.ensures.entries, c.requests.invariant.count, c.requests.auto.counter-end, c.requests-test.false)
+returns-clause-spent g c = λ e. omega (arith, ap length c.into_trace-2.ensures.entries, c.requests.invariant.count, c.requests.auto.call-end, c.requests-test.false)
 
 pub returns-in-Err-clause-spent_end : goal.returns-in-Err-clause-spent_end
 returns-in-Err-clause-spent_end g c = λ most other.

@@ -13,9 +13,9 @@ invariant-requests g l = record {
       (outside (g.I.Source.left l.input) (g.O.Sink.written l.output) (state (g.H.HostView.state l.host) (g.R.Repo.store l.repo) (g.D.Draw.draws l.draw) (g.C.Clock.moments l.clock)) l.log.entries.items l.log.list)
       l.place;
   free : (g.H.HostView.state l.host).held ≡ false;
-  count : length l.log.entries.items ≡ l.counter;
-  room : l.place ≤ 1048580 * l.counter;
-  passed : HavePassed (g.G.Gate.passed l.fn.gate l.fn.worker) l.counter;
+  count : length l.log.entries.items ≡ l.call;
+  room : l.place ≤ 1048580 * l.call;
+  passed : HavePassed (g.G.Gate.passed l.fn.gate l.fn.worker) l.call;
   no_read_fault : g.I.Source.faults l.input ≡ g.I.Source.faults l.fn.input;
   no_write_fault : g.O.Sink.faults l.output ≡ g.O.Sink.faults l.fn.output;
 }

@@ -71,6 +71,7 @@ some_pass o = record {
   floor = [];
   acts = [];
   single = None;
+  turn = None;
 }
 
 module _ (options : Options) (s s' : Store) (d d' : DrawState) (now : ℕ) where

@@ -57,23 +57,17 @@ fn open_now<H: HostView>(
     Ok(unprotect_now(alloc, host, &headers, at, &chain, sealed.as_slice(), false))
 }
 
-// Whether a pass of a node with one key seals a payload and opens it, and why it seals none when its
-// ring has ended.
+// Whether a pass of a node with one key seals a payload, whether it opens that until its ring ends, and
+// why it seals none then.
 fn told_now<H: HostView>(alloc: Global, host: &mut H) -> Result<(bool, bool, Why), Fail> {
     let sealed = seal_now(alloc, host, TICKS_PER_DAY - 1)??;
-    let opened = open_now(alloc, host, TICKS_PER_DAY - 1)??;
     let bytes = bytes_of(alloc, EMPTY_SEALED)?;
-    match (
-        seal_now(alloc, host, TICKS_PER_DAY)?,
-        open_now(alloc, host, TICKS_PER_DAY)?,
-    ) {
-        (Err(CallRefused::Due(why)), Err(CallRefused::Due(same))) if why == same => {
-            Ok((
-                is_sealed(&sealed, bytes.as_slice()),
-                is_opened(&opened),
-                why,
-            ))
-        }
+    let is_sealed = is_sealed(&sealed, bytes.as_slice());
+    let opened = open_now(alloc, host, TICKS_PER_DAY - 1)??;
+    let late = open_now(alloc, host, TICKS_PER_DAY)?;
+    let ends = is_opened(&opened) && matches!(late, Err(CallRefused::Due(_)));
+    match seal_now(alloc, host, TICKS_PER_DAY)? {
+        Err(CallRefused::Due(why)) => Ok((is_sealed, ends, why)),
         _ => Err("not due".into()),
     }
 }
@@ -131,7 +125,9 @@ fn node_now_without_a_key(rt: HostRuntime) -> Result<(), Fail> {
             open_now(rt.alloc(), &mut solo, 0)?,
             Err(CallRefused::Unprotect {
                 front: 0,
-                why: UnprotectRefused::KeyNotFound { id: KeyId(64) }
+                why: UnprotectRefused::KeyNotFound {
+                    id: KeyId(0x4000_8000_0000_0000_0000)
+                }
             })
         )
     );

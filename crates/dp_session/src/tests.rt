@@ -373,6 +373,8 @@ struct Passed<'a> {
 }
 
 impl Clock for Passed<'_> {
+    ghost use Rattle.std.specs.Prelude.{None};
+
     ghost moments = { λ _. None };
 
     fn now(&mut self) -> u64 {

@@ -7,11 +7,11 @@ use Rattle.ring_world.specs.declared.step.Step.{Step}
 use Rattle.ring_world.specs.declared.step.Step.TheVariants.{Take, Busy, Give, Answer}
 use Rattle.ring_world.specs.Course.{Course, any_publishes}
 use Rattle.ring_world.specs.Flight.{Refusal, Behind, Plain, Keyed, Filled, Shrunk, Flown, Broken, sight_steps}
-use Rattle.ring_world.specs.Path.{Call, target, is_enough_for, is_enough, Path, FirstLookFailed, AtOnce, Stale, Alone, Turned, AloneFailed, AloneShort, Apart, HolderPath, LookFailed, Rests, Parts, Flies, IsPath, path_course, path_end, turn_course, turn_end}
+use Rattle.ring_world.specs.Path.{Call, target, is_enough, Path, FirstLookFailed, AtOnce, Stale, Alone, Turned, AloneFailed, AloneShort, Apart, HolderPath, LookFailed, Rests, Parts, Flies, IsPath, path_course, path_end, turn_course, turn_end}
 use Rattle.ring_world.specs.Settle.{Keeps, Stays, Again, IsSecond}
 use Rattle.ring_world.specs.Way.{Comes, Fails, answered, CallPath, complete, cut_off}
 use Rattle.node_calls.specs.HostState.{AtTurn, turn_by}
-use Rattle.node_calls.specs.Books.{turn_after, Named, AreNamed}
+use Rattle.node_calls.specs.Books.{turn_after, AreNamed}
 use Rattle.node_calls.specs.Stale.{read_by_step, last_try, IsStale, FoundTaken}
 use Rattle.node_calls.proofs.Books.{any_publishes-append}
 use Rattle.node_calls.proofs.Courses.{or_true}
@@ -102,8 +102,8 @@ found_taken c r own d old new (complete (Fails p) is l e o q) named turn stale =
 found_taken c r own d old new (complete (Comes p a Keeps) is l e o q) named turn stale =
     let same = answered_by (nat_le c.need (length a.list)) c.need a r e in
     subst (λ (y : Course). FoundTaken y.steps new) (sym q) (keeping c r old new p is.0 (is.1 ∙ ap (λ (z : RingOf). Ok z) same)
-      (subst (λ (y : Course). AreNamed y.steps) q named) (subst (λ (y : Course). new ≡ option_map (turn_after y.steps) old) q turn)
-      (subst (λ (y : Course). IsStale c.terms.now (target c) y.steps r) q stale))
+    (subst (λ (y : Course). AreNamed y.steps) q named) (subst (λ (y : Course). new ≡ option_map (turn_after y.steps) old) q turn)
+    (subst (λ (y : Course). IsStale c.terms.now (target c) y.steps r) q stale))
 found_taken c r own d old new (complete (Comes p a (Stays h)) is l e o q) named turn stale =
     let s = (path_course c p).steps in
     found h s d.steps old new (ap (λ (y : Course). y.steps) q ∙ append_assoc s (Busy h ∷ []) (Answer ∷ [])) named turn

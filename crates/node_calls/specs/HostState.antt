@@ -1,5 +1,5 @@
 -- A pass of a node as clauses see it, and what each call of it leaves.
-use Rattle.std.specs.Prelude.{◌≡◌, ℕ, ◌+◌, ◌<◌, Bool, true, false, List, [], ◌∷◌, ◌++◌, ◌-◌, length, drop, max, Option, Some, None, option_map, Result, Ok, Err, IfSome}
+use Rattle.std.specs.Prelude.{◌≡◌, ℕ, ◌+◌, ◌<◌, Bool, true, false, List, [], ◌∷◌, ◌++◌, ◌-◌, length, drop, max, Option, None, option_map, Result, Ok, Err, IfSome}
 use Rattle.key_elements.specs.declared.element.Element.{Element}
 use Rattle.key_elements.specs.Lists.{Extends, Agree, IsFirstDifference}
 use Rattle.key_ring.specs.Ring.{RingOf}

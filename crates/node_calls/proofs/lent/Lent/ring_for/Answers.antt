@@ -97,5 +97,5 @@ returns-clause-stale g c = λ stale.
     let own = (g.H.HostView.state c.args.self.now.host.now).own in
     let s = d.recorded.steps in
     subst (λ (z : List Step). FoundTaken z (g.H.HostView.state c.keep.new.self).turn) (sym s)
-      (found_taken _ ring _ d.course _ _ d.is d.recorded.named d.recorded.turn
-        (subst (λ (z : List Step). IsStale c.args.at.now (max c.args.at.need (length own)) z ring) s stale))
+    (found_taken _ ring _ d.course _ _ d.is d.recorded.named d.recorded.turn
+    (subst (λ (z : List Step). IsStale c.args.at.now (max c.args.at.need (length own)) z ring) s stale))

@@ -343,19 +343,18 @@ struct Worker {
 
 impl Worker {
     // How many elements a call finds that needs three, after a look that needs two.
-    fn find<W: Wait>(mut self, w: &mut W) -> Option<u64> {
+    fn find<W: Wait + Drop>(mut self, mut w: W) -> Option<u64> {
         let now = DAY_0;
-        let _shown = ring_now(&mut self.pass, At { now, need: 2 }).ok()?;
-        if self.pass.held() {
+        let pass = &mut self.pass;
+        let _shown = ring_now(pass, At { now, need: 2 }).ok()?;
+        if pass.held() {
             return None;
         }
-        let alloc = self.store.alloc;
-        let pass = &mut self.pass;
-        let repo = &mut self.store.repo;
-        let draw = &mut self.store.draw;
-        let mut steps = StepList::with_room(alloc).ok()?;
+        let store = &mut self.store;
+        let (repo, draw) = (&mut store.repo, &mut store.draw);
+        let steps = &mut StepList::with_room(store.alloc).ok()?;
         let at = At { now, need: 3 };
-        let ring = ring_for(w, alloc, pass, repo, draw, at, None, &mut steps).ok()?;
+        let ring = ring_for(&mut w, store.alloc, pass, repo, draw, at, None, steps).ok()?;
         Some(ring.list().len())
     }
 }
@@ -377,10 +376,7 @@ fn workers<W: Wait>(w: &mut W, alloc: Global) -> Result<Vec<Worker>, Fail> {
 fn each_on_its_thread(mut rt: HostRuntime) -> Result<(), Fail> {
     let alloc = rt.alloc();
     let workers = workers(&mut rt, alloc)?;
-    let find = |worker: Worker| {
-        let mut rt = rt;
-        worker.find(&mut rt)
-    };
+    let find = |worker: Worker| worker.find(rt);
     let found = thread::map_vec(&rt, workers, &find)?;
     assert_eq!(rt; found.len(), 64);
     for count in found.as_slice() {

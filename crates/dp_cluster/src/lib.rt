@@ -8,6 +8,8 @@ mod node_tests;
 #[cfg(test)]
 mod pass_tests;
 #[cfg(test)]
+mod session_tests;
+#[cfg(test)]
 mod tests;
 
 pub use auditing::{AuditFork, audit};

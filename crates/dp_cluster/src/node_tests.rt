@@ -7,7 +7,7 @@ use dp_encryptor::HeaderTable;
 use dp_node::{At, HostView, Node, NodeError, Pass, revoke, ring_now};
 use dp_protector::{Opened, UnprotectRefused, unprotect_with};
 use dp_session::{Answered, CallRefused, protect, unprotect};
-use key_elements::{ElementList, Reason};
+use key_elements::{ElementList, Reason, encode, read_list};
 use key_ring::Ring;
 use purpose_chain::Chain;
 use repo_keeper::{MemKeeper, OwnRepo, Repo};
@@ -145,15 +145,18 @@ fn cluster<W: Wait>(
             passes,
             options()?,
         )?;
-        while let Some(pass) = ends.pop() {
-            opened.push(pass)?;
+        for _ in 0..passes {
+            if let Some(pass) = ends.pop() {
+                opened.push(pass)?;
+            }
         }
     }
     let (repo, mut links) = SharedRepo::open(alloc, repo.into_keeper(), 64)?;
     let mut workers = Vec::new(alloc);
-    while let (Some(pass), Some(link)) = (opened.pop(), links.pop()) {
-        let number = workers.len() as u64 + 1;
-        workers.push(Worker::new(alloc, pass, link, number)?)?;
+    for number in 0..64 {
+        if let (Some(pass), Some(link)) = (opened.pop(), links.pop()) {
+            workers.push(Worker::new(alloc, pass, link, number)?)?;
+        }
     }
     Ok((repo, workers))
 }
@@ -268,11 +271,11 @@ impl Runner {
         let mut front = Vec::new(alloc);
         for place in 0..last.front {
             match history.get(place) {
-                Some(element) => front.push(element.clone()?)?,
+                Some(element) => encode(alloc, element, &mut front)?,
                 None => return Ok(false),
             }
         }
-        let list = ElementList::empty().extended(alloc, front)?;
+        let list = read_list(alloc, front.as_slice())?;
         let ring = Ring::of(alloc, list, last.made_at, 0, &options()?)?;
         let worker = &self.worker;
         let payload = last.value.as_slice();
@@ -316,9 +319,10 @@ fn many_threads(rt: HostRuntime) -> Result<(), Fail> {
     let mut w = rt;
     let (_repo, mut workers) = cluster(&mut w, alloc, 1, PASSES)?;
     let mut runners = Vec::new(alloc);
-    while let Some(worker) = workers.pop() {
-        let revokes = runners.is_empty();
-        runners.push(Runner::new(worker, revokes))?;
+    for number in 0..PASSES {
+        if let Some(worker) = workers.pop() {
+            runners.push(Runner::new(worker, number == 0))?;
+        }
     }
     let run = |_: usize, one: &mut Runner| {
         let mut w = rt;

@@ -99,14 +99,10 @@ fn sessions_over_passes(mut rt: HostRuntime) -> Result<(), Fail> {
     let alloc = rt.alloc();
     let (mut one, mut other) = ends(&mut rt, alloc)?;
     let made = session(&mut rt, alloc, &mut one, &ROLL)?;
-    assert_eq!(rt;
-        (made.0, made.1.as_slice()),
-        (Status::Done, ROLLED.as_slice())
-    );
+    assert_eq!(rt; made.0, Status::Done);
+    assert!(rt; made.1.as_slice() == ROLLED.as_slice());
     let asked = session(&mut rt, alloc, &mut other, &RING)?;
-    assert_eq!(rt;
-        (asked.0, asked.1.as_slice()),
-        (Status::Done, BEHIND.as_slice())
-    );
+    assert_eq!(rt; asked.0, Status::Done);
+    assert!(rt; asked.1.as_slice() == BEHIND.as_slice());
     Ok(())
 }

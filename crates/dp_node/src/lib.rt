@@ -2,6 +2,7 @@
 //! The calls of a pass are those of `node_calls`.
 #![tactic(auto)]
 
+mod cell_ring;
 mod node;
 mod pass;
 mod solo;

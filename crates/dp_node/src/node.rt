@@ -8,6 +8,7 @@ ghost use Rattle.flight_turn.specs.Seats.{IsSeatOf, AreNew};
 ghost use Rattle.node_calls.specs.Opening.{Opens};
 ghost use Rattle.dp_node.specs.NodeOpening.{IsEndOf, IsNode, ArePasses, facts_of};
 
+use crate::cell_ring::CellRing;
 use crate::pass::Pass;
 use default_key::Options;
 use dp_base::{Draw, Grows, Memory};
@@ -27,9 +28,9 @@ fn seat_all(
     alloc: Global,
     facts: NodeFacts,
     ring: &Ring,
-    turn: &Arc<Turn<Setter<Ring>>>,
-    mut viewers: Vec<Viewer<Ring>>,
-    mut seats: Vec<TurnSeat<Setter<Ring>>>,
+    turn: &Arc<Turn<Setter<CellRing>>>,
+    mut viewers: Vec<Viewer<CellRing>>,
+    mut seats: Vec<TurnSeat<Setter<CellRing>>>,
 ) -> Result<Vec<Pass>, Memory>
     requires count { length viewers.items ≡ length seats.items }
     requires few { length seats.items ≤ 64 }
@@ -61,7 +62,7 @@ fn passes_over(
     ensures { IfOk result (λ made. ArePasses facts ring passes made.items) }
 {
     let shown = ring.share()?;
-    let (setter, viewers) = cell(alloc, ring, passes)?;
+    let (setter, viewers) = cell(alloc, CellRing { ring }, passes)?;
     let (turn, seats) = Turn::new(alloc, setter, passes)?;
     let turn = Arc::new(alloc, turn)?;
     seat_all(alloc, facts, &shown, &turn, viewers, seats)

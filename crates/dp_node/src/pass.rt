@@ -9,6 +9,7 @@ ghost use Rattle.swap_cell.specs.Cells.{setter_cell, viewer_cell};
 ghost use Rattle.flight_turn.specs.Seats.{IsSeatOf, holds, number, turn_mark};
 ghost use Rattle.dp_node.specs.Floor.{floor_of, IsLedBy};
 
+use crate::cell_ring::{CellRing, look_at};
 use crate::witness::Witness;
 use dp_base::{Grows, Memory};
 use flight_turn::{Busy, Turn, TurnSeat};
@@ -35,11 +36,11 @@ pub(crate) struct Notes {
 #[derive(Drop)]
 pub struct Pass {
     pub(crate) notes: Notes,
-    pub(crate) viewer: Viewer<Ring>,
-    pub(crate) turn: Arc<Turn<Setter<Ring>>>,
-    pub(crate) seat: TurnSeat<Setter<Ring>>,
+    pub(crate) viewer: Viewer<CellRing>,
+    pub(crate) turn: Arc<Turn<Setter<CellRing>>>,
+    pub(crate) seat: TurnSeat<Setter<CellRing>>,
     // The flight, while the turn is held.
-    pub(crate) setter: Option<Setter<Ring>>,
+    pub(crate) setter: Option<Setter<CellRing>>,
     ghost seated: { IsSeatOf setter_cell (arc_value turn) seat },
     ghost numbered: { number seat ≡ notes.facts.pass + 1 },
     ghost cell: { turn_mark setter_cell (arc_value turn) ≡ viewer_cell viewer },
@@ -65,9 +66,9 @@ impl Pass {
     pub(crate) fn over(
         facts: NodeFacts,
         ring: &Ring,
-        turn: &Arc<Turn<Setter<Ring>>>,
-        viewer: Viewer<Ring>,
-        seat: TurnSeat<Setter<Ring>>,
+        turn: &Arc<Turn<Setter<CellRing>>>,
+        viewer: Viewer<CellRing>,
+        seat: TurnSeat<Setter<CellRing>>,
     ) -> Result<Pass, Memory>
         requires cell { turn_mark setter_cell (arc_value turn.now) ≡ viewer_cell viewer }
         requires known { known viewer ≡ ring.now ∷ [] }
@@ -122,7 +123,7 @@ impl HostView for Pass {
     }
 
     fn look(&mut self) -> Result<Ring, Memory> {
-        match self.viewer.look() {
+        match look_at(&mut self.viewer) {
             Ok(ring) => {
                 self.notes.looked = Witness::of(&ring);
                 self.notes.acts.push(look_step(&ring));
@@ -204,7 +205,7 @@ impl<W: Wait> Host<W> for Pass {
             front: ring.list().len(),
             until: ring.until(),
         };
-        match setter.set(w, ring) {
+        match setter.set(w, CellRing { ring }) {
             Ok(()) => {
                 self.viewer.learn(setter.tell());
                 self.notes.looked = looked;

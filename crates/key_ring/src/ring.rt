@@ -30,12 +30,18 @@ pub struct KeyState<'a> {
     pub is_default: bool,
 }
 
+// What the shares of a ring have in common.
+#[derive(Debug, Drop)]
+struct Body {
+    list: ElementList,
+    keys: Arc<Vec<RingKey>>,
+}
+
 /// The ring of a list of elements at a moment, in ticks. Rings share their lists and keys, and none
 /// is copied.
 #[derive(Debug, Drop)]
 pub struct Ring {
-    list: ElementList,
-    keys: Arc<Vec<RingKey>>,
+    body: Arc<Body>,
     policy: Policy,
     made_at: u64,
     until: u64,
@@ -49,13 +55,14 @@ impl Model for Ring {
     ghost Value = { RingOf };
 
     ghost view = { λ r. record {
-      list = r.list;
+      list = (arc_value r.body).list;
       made_at = r.made_at;
       until = r.until;
       excused = r.excused;
     } };
 
-    ghost invariant = { λ r. IsRing r.list r.made_at (arc_value r.keys).items r.policy };
+    ghost invariant = { λ r. IsRing (arc_value r.body).list r.made_at
+      (arc_value (arc_value r.body).keys).items r.policy };
 }
 
 // The key with the id.
@@ -89,7 +96,7 @@ impl Ring {
     fn keys(&self) -> &[RingKey]
         ensures { result.now ≡ ring_keys self.now.list }
     {
-        self.keys.as_slice()
+        self.body.keys.as_slice()
     }
 
     fn preferred_key(&self) -> Option<&KeyRecord>
@@ -123,28 +130,23 @@ impl Ring {
         let end = now + options.period - jitter;
         let until = until_of(default_of(keys.as_slice(), policy), now, end);
         let keys = Arc::new(alloc, keys)?;
-        Ok(Ring::from_parts(list, keys, policy, now, until))
+        let body = Arc::new(alloc, Body { list, keys })?;
+        Ok(Ring::from_parts(body, policy, now, until))
     }
 
     // A ring that nothing is excused of, of a list and what follows from it at the moment.
-    fn from_parts(
-        list: ElementList,
-        keys: Arc<Vec<RingKey>>,
-        policy: Policy,
-        made_at: u64,
-        until: u64,
-    ) -> Ring
-        requires { IsRing list made_at (arc_value keys).items policy }
+    fn from_parts(body: Arc<Body>, policy: Policy, made_at: u64, until: u64) -> Ring
+        requires { IsRing (arc_value body).list made_at (arc_value (arc_value body).keys).items
+            policy }
         ensures { result ≡ record {
-          list = list;
+          list = (arc_value body).list;
           made_at = made_at;
           until = until;
           excused = 0;
         } }
     {
         Ring {
-            list,
-            keys,
+            body,
             policy,
             made_at,
             until,
@@ -156,7 +158,7 @@ impl Ring {
     pub fn list(&self) -> &ElementList
         ensures { result.now ≡ self.now.list }
     {
-        &self.list
+        &self.body.list
     }
 
     /// The moment at which the ring was made, in ticks.
@@ -186,7 +188,7 @@ impl Ring {
     pub fn due(&self, now: u64, want: u64) -> Option<Why>
         ensures { result ≡ due self.now now want }
     {
-        let held = self.list.len().max(self.excused);
+        let held = self.body.list.len().max(self.excused);
         if self.until <= now {
             Some(Why::Ended {
                 until: self.until,
@@ -206,12 +208,27 @@ impl Ring {
         ensures { IfOk result (λ ring. ring ≡ extended self.now now want) }
     {
         Ok(Ring {
-            list: self.list.share()?,
-            keys: Arc::try_clone(&self.keys)?,
+            body: Arc::try_clone(&self.body)?,
             policy: self.policy,
             made_at: self.made_at,
             until: now + EXTENSION,
             excused: self.excused.max(want),
+        })
+    }
+
+    /// The same ring, with a count of owners of its own. Whoever shares and drops it writes nothing
+    /// that the owners of other rings read.
+    pub fn apart(&self, alloc: Global) -> Result<Ring, Memory>
+        ensures { IfOk result (λ ring. ring ≡ self.now) }
+    {
+        let list = self.body.list.share()?;
+        let keys = Arc::try_clone(&self.body.keys)?;
+        Ok(Ring {
+            body: Arc::new(alloc, Body { list, keys })?,
+            policy: self.policy,
+            made_at: self.made_at,
+            until: self.until,
+            excused: self.excused,
         })
     }
 
@@ -257,7 +274,13 @@ impl Ring {
             ≡ listing self.now.list self.now.made_at) }
         ensures short { IfOk result (λ text. length (string_bytes text) < LISTING_LIMIT) }
     {
-        text_of(alloc, &self.list, self.keys(), self.policy, self.made_at)
+        text_of(
+            alloc,
+            self.list(),
+            self.keys(),
+            self.policy,
+            self.made_at,
+        )
     }
 }
 
@@ -269,8 +292,7 @@ impl Grows for Ring {
 
     fn share(&self) -> Result<Ring, Memory> {
         Ok(Ring {
-            list: self.list.share()?,
-            keys: Arc::try_clone(&self.keys)?,
+            body: Arc::try_clone(&self.body)?,
             policy: self.policy,
             made_at: self.made_at,
             until: self.until,

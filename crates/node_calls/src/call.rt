@@ -23,7 +23,7 @@ use crate::error::NodeError;
 use crate::gather::read_on;
 use crate::host::{Host, HostView};
 use crate::lent::{Lent, Sources};
-use crate::sight::{Sight, look_once};
+use crate::sight::{Sight, keep_list, look_once};
 use dp_base::{Draw, Grows, KeyId};
 use key_elements::ElementList;
 use key_ring::Ring;
@@ -238,8 +238,7 @@ impl<W, H: Host<W>, R: Repo<W>, D: Draw> Lent<'_, '_, '_, '_, '_, W, H, R, D> {
         let target = at.need.max(self.host.own().len());
         let found = self.find(at, target)?;
         let ring = self.settle(at, missing, found)?;
-        let list = ring.list().share()?;
-        self.host.keep(list);
+        keep_list(self.host, ring.list())?;
         self.steps.push(Step::Answer);
         let have = ring.list().len();
         if have < at.need {

@@ -8,7 +8,7 @@ ghost use Rattle.node_calls.specs.Now.{why_not, AskRefused, Judged, GivesNow};
 use crate::call::At;
 use crate::error::Fork;
 use crate::host::HostView;
-use crate::sight::{Sight, fork};
+use crate::sight::{Sight, fork, keep_list};
 use dp_base::{Grows, Memory};
 use key_elements::ElementList;
 use key_ring::{Ring, Why};
@@ -84,7 +84,6 @@ pub fn ring_now<H: HostView>(host: &mut H, at: At) -> Result<Ring, NowRefused>
 {
     let sight = ask(host)?;
     judge(host.own(), at, &sight)?;
-    let list = sight.ring.list().share()?;
-    host.keep(list);
+    keep_list(host, sight.ring.list())?;
     Ok(sight.ring)
 }

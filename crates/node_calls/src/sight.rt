@@ -1,7 +1,7 @@
 //! What a pass sees of its node at one asking.
 
-ghost use Rattle.std.specs.Prelude.{◌≡◌, ◌+◌, ◌≤◌, ◌++◌, length, IfOk, IfErr};
-ghost use Rattle.key_elements.specs.Lists.{Agree};
+ghost use Rattle.std.specs.Prelude.{◌≡◌, ◌+◌, ◌≤◌, ◌++◌, length, IfOk, IfErr, OnOk, OnErr};
+ghost use Rattle.key_elements.specs.Lists.{Agree, Extends};
 ghost use Rattle.ring_world.specs.declared.step.TheConstants.{MAX_STEPS};
 ghost use Rattle.ring_world.specs.Flight.{look_step, sight_steps};
 ghost use Rattle.ring_world.specs.Path.{is_enough_for};
@@ -52,6 +52,20 @@ pub fn fork(at: u64, own: &ElementList, other: &ElementList) -> Result<Fork, Mem
         left: own.share()?,
         right: other.share()?,
     })
+}
+
+/// The pass has seen the list, which extends what it had seen. A list as long is that one, so no
+/// share is made of it.
+pub(crate) fn keep_list<H: HostView>(host: &mut H, list: &ElementList) -> Result<(), Memory>
+    requires { Extends list.now (H.state host.old).own }
+    ensures ok { OnOk result (H.state host.new ≡ record (H.state host.old) { own = list.now }) }
+    ensures err { OnErr result (H.state host.new ≡ H.state host.old) }
+{
+    if host.own().len() < list.len() {
+        let shared = list.share()?;
+        host.keep(shared);
+    }
+    Ok(())
 }
 
 /// Asks the want number and looks, once each. A ring whose list differs from the own one is

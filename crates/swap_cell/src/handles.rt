@@ -2,14 +2,17 @@
 ghost use Rattle.std.specs.Prelude.{◌≡◌, ◌+◌, ◌*◌, ◌<◌, ◌≤◌, true, [], ◌∷◌, drop, length, Some};
 ghost use Rattle.std.specs.Arc.{arc_value};
 
+use crate::apart::Apart;
 use crate::board::{Board, Item, Place};
-use dp_base::{Grows, Kin};
+use dp_base::Kin;
+use std::alloc::Global;
 use std::sync::Arc;
 use thiserror::Error;
 
 /// The one end that sets. It may move to another thread.
 #[derive(Drop)]
-pub struct Setter<T: Grows + Drop> {
+pub struct Setter<T: Apart + Drop> {
+    pub(crate) alloc: Global,
     pub(crate) board: Arc<Board<T>>,
     pub(crate) place: Place<T>,
     pub(crate) last: Item<T>,
@@ -30,7 +33,7 @@ pub struct Setter<T: Grows + Drop> {
 
 /// An end that looks. It may move to another thread.
 #[derive(Drop)]
-pub struct Viewer<T: Grows + Drop> {
+pub struct Viewer<T: Apart + Drop> {
     pub(crate) board: Arc<Board<T>>,
     pub(crate) place: Place<T>,
     // The number of its first slot. The second is the next one.
@@ -67,7 +70,7 @@ pub struct SetBack<T> {
     pub value: T,
 }
 
-impl<T: Grows + Drop> Kin for Setter<T> {
+impl<T: Apart + Drop> Kin for Setter<T> {
     ghost use Rattle.atomic_table.specs.Seated.{TableId};
 
     ghost Mark = { TableId };

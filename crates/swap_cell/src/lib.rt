@@ -5,6 +5,7 @@
 //! a look finds one of its slots free.
 #![tactic(auto)]
 
+mod apart;
 mod board;
 mod handles;
 mod making;
@@ -14,5 +15,6 @@ mod setting;
 mod tests;
 mod viewing;
 
+pub use apart::Apart;
 pub use handles::{SetBack, Setter, Told, Viewer};
 pub use making::cell;

@@ -1,19 +1,20 @@
 //! What makes a cell.
-ghost use Rattle.std.specs.Prelude.{◌≡◌, ◌+◌, ◌<◌, ◌≤◌, ◌∷◌, [], All, length, IfOk};
+ghost use Rattle.std.specs.Prelude.{◌≡◌, ◌+◌, ◌*◌, ◌<◌, ◌≤◌, ◌∷◌, [], All, length, IfOk};
 ghost use Rattle.swap_cell.specs.Cells.{Follows, HaveSlots, StaysSet, setter_cell, viewer_slot, last_set, set_before};
 
+use crate::apart::Apart;
 use crate::board::{Item, SLOTS, STRIDE};
 use crate::handles::{Setter, Viewer};
 use crate::plays::Tell;
 use crate::setting::share_to;
 use atomic_table::Table;
-use dp_base::{Grows, Memory};
+use dp_base::Memory;
 use std::alloc::Global;
 use std::snapshot::Snapshot;
 use std::sync::Arc;
 
 /// A cell with its first value: the end that sets, and 1 to 64 that look.
-pub fn cell<T: Grows + Drop>(
+pub fn cell<T: Apart + Drop>(
     alloc: Global,
     first: T,
     viewers: u32,
@@ -32,7 +33,7 @@ pub fn cell<T: Grows + Drop>(
             value: first,
             number: 0,
         },
-        SLOTS * count,
+        count,
     )?;
     let mut ends = Vec::with_capacity(alloc, count)?;
     for index in 0..count {
@@ -42,14 +43,19 @@ pub fn cell<T: Grows + Drop>(
     Ok((setter, ends))
 }
 
-fn setter<T: Grows + Drop>(alloc: Global, first: Item<T>, count: usize) -> Result<Setter<T>, Memory>
-    requires { (1 ≤ count) × (count ≤ 128) × (first.number ≡ 0) }
+fn setter<T: Apart + Drop>(
+    alloc: Global,
+    first: Item<T>,
+    viewers: usize,
+) -> Result<Setter<T>, Memory>
+    requires { (1 ≤ viewers) × (viewers ≤ 64) × (first.number ≡ 0) }
     ensures last { IfOk result (λ s. last_set s ≡ first.value) }
     ensures set { IfOk result (λ s. set_before s ≡ first.value ∷ []) }
-    ensures slots { IfOk result (λ s. s.place.table_id.slots ≡ count) }
+    ensures slots { IfOk result (λ s. s.place.table_id.slots ≡ 2 * viewers) }
 {
+    let count = SLOTS * viewers;
     let mut slots = Vec::with_capacity(alloc, count)?;
-    share_to(&mut slots, &first, count)?;
+    share_to(alloc, &mut slots, &first, viewers)?;
     let words = Vec::from_elem(alloc, 0u64, STRIDE * count)?;
     let room = Vec::with_capacity(alloc, count)?;
     let about = Snapshot::of(&first.value);
@@ -57,6 +63,7 @@ fn setter<T: Grows + Drop>(alloc: Global, first: Item<T>, count: usize) -> Resul
         return Err(Memory);
     };
     Ok(Setter {
+        alloc,
         board: Arc::new(alloc, table)?,
         place,
         last: first,
@@ -64,7 +71,7 @@ fn setter<T: Grows + Drop>(alloc: Global, first: Item<T>, count: usize) -> Resul
     })
 }
 
-fn viewer<T: Grows + Drop>(setter: &mut Setter<T>, index: usize) -> Result<Viewer<T>, Memory>
+fn viewer<T: Apart + Drop>(setter: &mut Setter<T>, index: usize) -> Result<Viewer<T>, Memory>
     requires { index + 1 < setter.old.place.table_id.slots }
     ensures cell { setter_cell setter.new ≡ setter_cell setter.old }
     ensures same { StaysSet setter.old setter.new }
@@ -72,7 +79,7 @@ fn viewer<T: Grows + Drop>(setter: &mut Setter<T>, index: usize) -> Result<Viewe
     ensures slot { IfOk result (λ v. viewer_slot v ≡ index) }
 {
     let board = Arc::try_clone(&setter.board)?;
-    let value = setter.last.value.share()?;
+    let value = setter.last.value.apart(setter.alloc)?;
     let number = setter.last.number;
     let place = setter.board.shared.split_seat::<Tell>(&mut setter.place);
     Ok(Viewer {

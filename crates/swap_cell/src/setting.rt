@@ -1,38 +1,44 @@
 //! What the setter does.
-ghost use Rattle.std.specs.Prelude.{◌≡◌, ◌<◌, ◌≤◌, [], ◌∷◌, All, Some, drop, length, IfOk, IfErr};
+ghost use Rattle.std.specs.Prelude.{◌≡◌, ◌*◌, ◌<◌, ◌≤◌, [], ◌∷◌, All, Some, drop, length, IfOk, IfErr};
 ghost use Rattle.swap_cell.specs.Rule.{Each};
 ghost use Rattle.swap_cell.specs.Steps.{IsAt, IsFree, HasTaken, IsHanding, StaysSeated};
 ghost use Rattle.swap_cell.specs.Cells.{HasSet, StaysSet, setter_cell, told_cell, last_set, set_before, told_values};
 
+use crate::apart::Apart;
 use crate::board::{Board, Item, Place, SLOTS, STRIDE};
 use crate::handles::{SetBack, Setter, Told};
 use crate::plays::{Append, Flag, Free, Lock, Tell};
 use crossbeam_utils::Backoff;
-use dp_base::{Grows, Memory};
+use dp_base::Memory;
+use std::alloc::Global;
 use std::sync::Wait;
 
-// As many shares of the item.
-pub(crate) fn share_to<T: Grows + Drop>(
+// Two shares of the item for each viewer, whose owners are counted apart from those of the others.
+pub(crate) fn share_to<T: Apart + Drop>(
+    alloc: Global,
     room: &mut Vec<Item<T>>,
     item: &Item<T>,
-    count: usize,
+    viewers: usize,
 ) -> Result<(), Memory>
     requires { room.old.items ≡ [] }
-    ensures count { IfOk result (λ _. length room.new.items ≡ count) }
+    ensures count { IfOk result (λ _. length room.new.items ≡ 2 * viewers) }
     ensures alike { IfOk result (λ _. All (λ x. x ≡ item.now) room.new.items) }
 {
-    for _ in 0..count {
-        let value = item.value.share()?;
+    let number = item.number;
+    for _ in 0..viewers {
+        let value = item.value.apart(alloc)?;
+        let again = value.share()?;
+        room.push(Item { value, number })?;
         room.push(Item {
-            value,
-            number: item.number,
+            value: again,
+            number,
         })?;
     }
     Ok(())
 }
 
 // Waits until the slot is at home, and takes it.
-pub(crate) fn lock<T: Grows + Drop, W: Wait>(
+pub(crate) fn lock<T: Apart + Drop, W: Wait>(
     board: &Board<T>,
     place: &mut Place<T>,
     w: &W,
@@ -57,7 +63,7 @@ pub(crate) fn lock<T: Grows + Drop, W: Wait>(
 }
 
 // Waits until the flag beside this slot is down.
-fn wait_for_flag<T: Grows + Drop, W: Wait>(
+fn wait_for_flag<T: Apart + Drop, W: Wait>(
     board: &Board<T>,
     place: &mut Place<T>,
     w: &W,
@@ -77,7 +83,7 @@ fn wait_for_flag<T: Grows + Drop, W: Wait>(
 }
 
 // Puts the item into the slot.
-fn hand<T: Grows + Drop, W: Wait>(
+fn hand<T: Apart + Drop, W: Wait>(
     board: &Board<T>,
     place: &mut Place<T>,
     w: &W,
@@ -97,7 +103,7 @@ fn hand<T: Grows + Drop, W: Wait>(
 // Hands the items to the viewers, two to each. A viewer's second slot comes before its first, and
 // only where its flag is down: a look that raised it and finds the first slot taken then has the
 // second one for itself, since the next value comes there first.
-fn hand_all<T: Grows + Drop, W: Wait>(
+fn hand_all<T: Apart + Drop, W: Wait>(
     board: &Board<T>,
     place: &mut Place<T>,
     w: &W,
@@ -121,7 +127,7 @@ fn hand_all<T: Grows + Drop, W: Wait>(
     }
 }
 
-impl<T: Grows + Drop> Setter<T> {
+impl<T: Apart + Drop> Setter<T> {
     /// Sets a value, and hands it to each viewer. It waits while a viewer has one of its slots or
     /// its flag is up. Where there is no memory for the shares of the viewers, the value comes back
     /// and nothing has changed.
@@ -136,8 +142,8 @@ impl<T: Grows + Drop> Setter<T> {
             return Err(SetBack { value });
         };
         let next = Item { value, number };
-        let count = self.board.slot_count();
-        if share_to(&mut self.room, &next, count).is_err() {
+        let viewers = self.board.slot_count() / SLOTS;
+        if share_to(self.alloc, &mut self.room, &next, viewers).is_err() {
             self.room.clear();
             return Err(SetBack { value: next.value });
         }
@@ -158,7 +164,7 @@ impl<T: Grows + Drop> Setter<T> {
         ensures same { StaysSet self.old self.new }
     {
         let number = self.last.number;
-        let last = match self.last.value.share() {
+        let last = match self.last.value.apart(self.alloc) {
             Ok(value) => Some(Item { value, number }),
             Err(_) => None,
         };

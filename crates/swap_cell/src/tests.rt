@@ -2,8 +2,9 @@ ghost use Rattle.std.specs.Prelude.{◌≡◌, ◌≤◌};
 ghost use Rattle.swap_cell.specs.Cells.{last_set, viewer_cell};
 
 use crate::setting::lock;
-use crate::{SetBack, Setter, Viewer, cell};
+use crate::{Apart, SetBack, Setter, Viewer, cell};
 use dp_base::{Grows, Memory};
+use std::alloc::Global;
 use std::sync::atomic::{AtomicU64, Ordering};
 use std::sync::{Arc, Wait};
 use std::test::Fail;
@@ -28,6 +29,12 @@ impl Grows for Level {
         Ok(Level {
             metres: self.metres,
         })
+    }
+}
+
+impl Apart for Level {
+    fn apart(&self, _alloc: Global) -> Result<Level, Memory> {
+        self.share()
     }
 }
 
@@ -81,6 +88,7 @@ fn one_looks_whose_slot_is_held(mut rt: HostRuntime) -> Result<(), Fail> {
     }
     let told = setter.tell();
     let Setter {
+        alloc: _,
         board,
         mut place,
         last: _,

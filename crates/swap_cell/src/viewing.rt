@@ -4,14 +4,15 @@ ghost use Rattle.swap_cell.specs.Rule.{InLine};
 ghost use Rattle.swap_cell.specs.Steps.{IsAt, IsFree, StaysKnown};
 ghost use Rattle.swap_cell.specs.Cells.{HasLooked, HasLearnt, viewer_cell, viewer_slot, told_cell, known};
 
+use crate::apart::Apart;
 use crate::board::{Board, Item, Place, STRIDE};
 use crate::handles::{Told, Viewer};
 use crate::plays::{Flag, Free, Learn, Line, Lock, Look, Renew, Swap};
-use dp_base::{Grows, Memory};
+use dp_base::Memory;
 use std::mem;
 
 // Takes over what lies in the slot, where it is newer. It answers whether the slot was free.
-fn refresh<T: Grows + Drop>(
+fn refresh<T: Apart + Drop>(
     board: &Board<T>,
     place: &mut Place<T>,
     index: usize,
@@ -40,7 +41,7 @@ fn refresh<T: Grows + Drop>(
 }
 
 // Takes over what is newest in the first of two slots, or where that is taken, in the second.
-fn refresh_either<T: Grows + Drop>(
+fn refresh_either<T: Apart + Drop>(
     board: &Board<T>,
     place: &mut Place<T>,
     index: usize,
@@ -67,7 +68,7 @@ fn refresh_either<T: Grows + Drop>(
 // them is free. Say that the first is taken twice. The second time the flag is up, and the setter is
 // in the first slot: it is done with the second, and comes there again with the next value alone,
 // for which it waits until the flag is down. So the second is free now.
-fn refresh_any<T: Grows + Drop>(
+fn refresh_any<T: Apart + Drop>(
     board: &Board<T>,
     place: &mut Place<T>,
     index: usize,
@@ -91,7 +92,7 @@ fn refresh_any<T: Grows + Drop>(
     board.shared.store::<Flag>(place, flag, 0);
 }
 
-impl<T: Grows + Drop> Viewer<T> {
+impl<T: Apart + Drop> Viewer<T> {
     /// The value that is newest here: that of the last `set` that returned before this look began,
     /// or a later one. It waits for nobody.
     pub fn look(&mut self) -> Result<T, Memory>

@@ -5,13 +5,13 @@ ghost use Rattle.swap_cell.specs.Cells.{HasSet, StaysSet, setter_cell, viewer_ce
 ghost use Rattle.flight_turn.specs.Seats.{IsSeatOf, holds, turn_mark};
 ghost use Rattle.turn_and_cell.specs.Held.{IsHeldBy};
 
-use dp_base::{Grows, Memory};
+use dp_base::Memory;
 use flight_turn::{Busy, Turn, TurnSeat};
 use std::sync::Wait;
-use swap_cell::{SetBack, Setter, Viewer};
+use swap_cell::{Apart, SetBack, Setter, Viewer};
 
 /// Takes the turn, if it is free, and has the viewer learn all that was set.
-pub fn take<T: Grows + Drop>(
+pub fn take<T: Apart + Drop>(
     turn: &Turn<Setter<T>>,
     seat: &mut TurnSeat<Setter<T>>,
     viewer: &mut Viewer<T>,
@@ -32,7 +32,7 @@ pub fn take<T: Grows + Drop>(
 }
 
 /// A look while the turn is held: it extends the value set last.
-pub fn look<T: Grows + Drop>(setter: &Setter<T>, viewer: &mut Viewer<T>) -> Result<T, Memory>
+pub fn look<T: Apart + Drop>(setter: &Setter<T>, viewer: &mut Viewer<T>) -> Result<T, Memory>
     requires held { IsHeldBy viewer.old setter.now }
     ensures cell { viewer_cell viewer.new ≡ viewer_cell viewer.old }
     ensures held { IsHeldBy viewer.new setter.now }
@@ -42,7 +42,7 @@ pub fn look<T: Grows + Drop>(setter: &Setter<T>, viewer: &mut Viewer<T>) -> Resu
 }
 
 /// Sets a value that extends one looked at while the turn is held, and has the viewer learn it.
-pub fn set<T: Grows + Drop, W: Wait>(
+pub fn set<T: Apart + Drop, W: Wait>(
     setter: &mut Setter<T>,
     viewer: &mut Viewer<T>,
     w: &mut W,

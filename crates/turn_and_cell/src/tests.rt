@@ -5,9 +5,10 @@ ghost use Rattle.flight_turn.specs.Seats.{IsSeatOf, turn_mark};
 use crate::{look, set, take};
 use dp_base::{Grows, Memory};
 use flight_turn::{Turn, TurnSeat};
+use std::alloc::Global;
 use std::sync::Wait;
 use std::test::Fail;
-use swap_cell::{Setter, Viewer, cell};
+use swap_cell::{Apart, Setter, Viewer, cell};
 
 /// A level that only rises.
 #[derive(Debug, Drop)]
@@ -28,6 +29,12 @@ impl Grows for Level {
         Ok(Level {
             metres: self.metres,
         })
+    }
+}
+
+impl Apart for Level {
+    fn apart(&self, _alloc: Global) -> Result<Level, Memory> {
+        self.share()
     }
 }
 

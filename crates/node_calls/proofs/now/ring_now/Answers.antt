@@ -21,15 +21,15 @@ returns-in_err-judge g c =
       now = rw (p.1, p.2) (refused_now c.args.at h (g.H.HostView.state c.ask.new.host) s seen.shows seen.host why (subst (λ xs. Judged xs c.args.at s (Err why)) own c.in_err-judge.ensures));
     }
 
-pub keep-requires : goal.keep-requires
-keep-requires g c =
+pub keep_list-requires : goal.keep_list-requires
+keep_list-requires g c =
     let s : Sight = sight_of c.in_ok-sight.sight in
-    rw (c.in_ok-list.ensures, c.list.ensures) (subst (λ xs. Extends s.ring.list xs) c.own.ensures (used_extends c.own.result.now c.args.at s c.in_ok-judge.ensures))
+    rw c.list.ensures (subst (λ xs. Extends s.ring.list xs) c.own.ensures (used_extends c.own.result.now c.args.at s c.in_ok-judge.ensures))
 
-pub returns-in_err-list : goal.returns-in_err-list
-returns-in_err-list g c =
-    let p = err_from_is_err_and c.from_residual-in_err-list.result c.from_residual-in_err-list.ensures.1 in
-    let seen = c.in_ok-sight.ensures in record { now = rw (p.1, p.2) (inr (sight_of c.in_ok-sight.sight, seen.shows, seen.host)) }
+pub returns-in_err-keep_list : goal.returns-in_err-keep_list
+returns-in_err-keep_list g c =
+    let p = err_from_is_err_and c.from_residual-in_err-keep_list.result c.from_residual-in_err-keep_list.ensures.1 in
+    let seen = c.in_ok-sight.ensures in record { now = rw (p.1, p.2, c.in_err-keep_list.ensures.err) (inr (sight_of c.in_ok-sight.sight, seen.shows, seen.host)) }
 
 pub returns : goal.returns
 returns g c =
@@ -40,6 +40,6 @@ returns g c =
         seen.shows,
         subst (λ xs. IsUsed xs c.args.at s) own c.in_ok-judge.ensures,
         refl,
-        c.keep.ensures ∙ (λ i. record (seen.host i) { own = (c.in_ok-list.ensures ∙ c.list.ensures) i }),
+        c.in_ok-keep_list.ensures.ok ∙ (λ i. record (seen.host i) { own = c.list.ensures i }),
       );
     }

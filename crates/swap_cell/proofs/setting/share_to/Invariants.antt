@@ -1,6 +1,6 @@
-use Rattle.std.proofs.Common.{◌≡◌, All, length}
+use Rattle.std.proofs.Common.{◌≡◌, ◌*◌, All, length}
 use Rattle.swap_cell.proofs.setting.share_to.Given as goal
 
--- as many shares as the loop has counted
+-- two shares for each viewer that the loop has counted
 abbrev pub invariant-loop : goal.invariant-loop
-invariant-loop g l = (length l.room.items ≡ l.counter) × All (λ x. x ≡ l.item) l.room.items
+invariant-loop g l = (length l.room.items ≡ 2 * l.counter) × All (λ x. x ≡ l.item) l.room.items

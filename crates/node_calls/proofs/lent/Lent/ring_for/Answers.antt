@@ -62,33 +62,33 @@ returns-in_err-ring-clause-path g c =
     let p = err_from_is_err_and c.from_residual-in_err-ring.result c.from_residual-in_err-ring.ensures.1 in
     rw (p.1, p.2, c.in_err-ring.ensures.steady.0, c.in_ok-found.ensures.steady.0) (as_kind way (call_refused x (refusal c.in_err-ring.field-0.0)))
 
-pub returns-in_err-list-clause-path : goal.returns-in_err-list-clause-path
-returns-in_err-list-clause-path g c =
-    let k = (goal.at.returns-in_err-list-clause-path g c).In_ok-ring in
-    let p = err_from_is_err_and c.from_residual-in_err-list.result c.from_residual-in_err-list.ensures.1 in
-    rw (p.1, p.2, c.in_ok-ring.ensures.steady.0, c.in_ok-found.ensures.steady.0) (as_kind (way g k) (call_lost (asked g k) c.in_ok-ring.ring))
+pub returns-in_err-keep_list-clause-path : goal.returns-in_err-keep_list-clause-path
+returns-in_err-keep_list-clause-path g c =
+    let k = (goal.at.returns-in_err-keep_list-clause-path g c).In_ok-ring in
+    let p = err_from_is_err_and c.from_residual-in_err-keep_list.result c.from_residual-in_err-keep_list.ensures.1 in
+    rw (p.1, p.2, c.in_err-keep_list.ensures.err, c.in_ok-ring.ensures.steady.0, c.in_ok-found.ensures.steady.0) (as_kind (way g k) (call_lost (asked g k) c.in_ok-ring.ring))
 
 pub returns-then-have-at-clause-path : goal.returns-then-have-at-clause-path
 returns-then-have-at-clause-path g c =
     let k = (goal.at.returns-then-have-at-clause-path g c).In_ok-ring in
     let ring = c.in_ok-ring.ring in
-    let own : (g.H.HostView.state c.keep.new.self).own ≡ ring.list = ap (λ (h : HostState). h.own) c.keep.ensures ∙ c.in_ok-list.ensures ∙ c.list.ensures in
+    let own : (g.H.HostView.state c.keep_list.new.host).own ≡ ring.list = ap (λ (h : HostState). h.own) c.in_ok-keep_list.ensures.ok ∙ c.list.ensures in
     let front : c.len-have.result ≡ length ring.list = c.len-have.ensures.value ∙ ap length c.list-2.ensures in
     let behind = answered-behind c.args.at.need ring (subst (λ n. n < c.args.at.need) front c.if-have-at.true) in
-    rw (front, ← behind, own) (before (Answer ∷ []) (way g k) (did_answer _ _ _ _ _ _ c.in_ok-list.list c.push.ensures c.keep.ensures) (call_answered (asked g k) ring))
+    rw (front, ← behind, own) (before (Answer ∷ []) (way g k) (did_answer _ _ _ _ _ _ c.list.result.now c.push.ensures c.in_ok-keep_list.ensures.ok) (call_answered (asked g k) ring))
 
 pub returns-clause-path : goal.returns-clause-path
 returns-clause-path g c =
     let k = (goal.at.returns-clause-path g c).In_ok-ring in
     let ring = c.in_ok-ring.ring in
-    let own : (g.H.HostView.state c.keep.new.self).own ≡ ring.list = ap (λ (h : HostState). h.own) c.keep.ensures ∙ c.in_ok-list.ensures ∙ c.list.ensures in
+    let own : (g.H.HostView.state c.keep_list.new.host).own ≡ ring.list = ap (λ (h : HostState). h.own) c.in_ok-keep_list.ensures.ok ∙ c.list.ensures in
     let front : c.len-have.result ≡ length ring.list = c.len-have.ensures.value ∙ ap length c.list-2.ensures in
     let enough = answered-enough c.args.at.need ring (subst (λ n. c.args.at.need ≤ n) front c.if-have-at.false) in
-    rw (← enough, own) (before (Answer ∷ []) (way g k) (did_answer _ _ _ _ _ _ c.in_ok-list.list c.push.ensures c.keep.ensures) (call_answered (asked g k) ring))
+    rw (← enough, own) (before (Answer ∷ []) (way g k) (did_answer _ _ _ _ _ _ c.list.result.now c.push.ensures c.in_ok-keep_list.ensures.ok) (call_answered (asked g k) ring))
 
 pub returns-clause-looked : goal.returns-clause-looked
 returns-clause-looked g c = λ h.
-    ap (λ (s : HostState). s.looked) c.keep.ensures ∙ c.in_ok-ring.ensures.looked (private_front c.settle.new.self.steps.now (Answer ∷ []) c.push.new.self c.push.ensures h)
+    ap (λ (s : HostState). s.looked) c.in_ok-keep_list.ensures.ok ∙ c.in_ok-ring.ensures.looked (private_front c.settle.new.self.steps.now (Answer ∷ []) c.push.new.self c.push.ensures h)
 
 pub returns-clause-stale : goal.returns-clause-stale
 returns-clause-stale g c = λ stale.
@@ -96,6 +96,6 @@ returns-clause-stale g c = λ stale.
     let ring = c.in_ok-ring.ring in
     let own = (g.H.HostView.state c.args.self.now.host.now).own in
     let s = d.recorded.steps in
-    subst (λ (z : List Step). FoundTaken z (g.H.HostView.state c.keep.new.self).turn) (sym s)
+    subst (λ (z : List Step). FoundTaken z (g.H.HostView.state c.keep_list.new.host).turn) (sym s)
     (found_taken _ ring _ d.course _ _ d.is d.recorded.named d.recorded.turn
     (subst (λ (z : List Step). IsStale c.args.at.now (max c.args.at.need (length own)) z ring) s stale))

@@ -1,6 +1,6 @@
 //! What a session is served under.
 
-ghost use Rattle.std.specs.Prelude.{◌≡◌, ◌≢◌, ◌↔◌, ◌<◌, ◌≤◌, length, IfOk, Err};
+ghost use Rattle.std.specs.Prelude.{◌≡◌, ◌↔◌, ◌<◌, ◌≤◌, length, IfOk, Err};
 ghost use Rattle.dp_answer.specs.declared.app.AppRefused.TheVariants as refused;
 
 use default_key::Options;

@@ -1,6 +1,6 @@
 //! Requests whose element is appended to what the pass has seen.
 
-ghost use Rattle.std.specs.Prelude.{◌≡◌, ◌≤◌, false, ℕ, List, [], Some, Ok, IfOk, MatchOption};
+ghost use Rattle.std.specs.Prelude.{◌≡◌, ◌≤◌, false, ℕ, List, [], Some, Ok, IfOk};
 ghost use Rattle.dp_base.specs.declared.ticks.TheConstants.{LAST};
 ghost use Rattle.dp_base.specs.Codes.{IsCode};
 ghost use Rattle.key_elements.specs.Lists.{Extends};

@@ -1,6 +1,6 @@
 //! What a request is answered by, and the frames of replies.
 
-ghost use Rattle.std.specs.Prelude.{◌≡◌, ◌≢◌, ◌<◌, ◌^◌, [], None, Some, length, IfOk, OnOk, MatchOption};
+ghost use Rattle.std.specs.Prelude.{◌≡◌, ◌≢◌, ◌<◌, None, Some, IfOk, OnOk, MatchOption};
 ghost use Rattle.node_calls.specs.declared.error.NodeError.TheVariants as errors;
 ghost use Rattle.dp_wire.specs.declared.reply.Reply.TheVariants as replies;
 ghost use Rattle.dp_wire.specs.Frame.{frame};

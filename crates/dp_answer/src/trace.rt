@@ -1,6 +1,6 @@
 //! What the requests of a session used.
 
-ghost use Rattle.std.specs.Prelude.{◌≡◌, ◌≤◌, [], IfOk, length};
+ghost use Rattle.std.specs.Prelude.{◌≡◌, ◌≤◌, [], length};
 
 use dp_base::MAX_TAPE;
 use key_elements::ElementList;

@@ -1,6 +1,6 @@
 //! The opening of a node of many passes.
 
-ghost use Rattle.std.specs.Prelude.{◌≡◌, ◌≤◌, ◌∷◌, All, IfOk, [], length};
+ghost use Rattle.std.specs.Prelude.{◌≡◌, ◌≤◌, All, IfOk, length};
 ghost use Rattle.std.specs.Arc.{arc_value};
 ghost use Rattle.dp_base.specs.declared.ticks.TheConstants.{LAST};
 ghost use Rattle.swap_cell.specs.Cells.{setter_cell};

@@ -9,12 +9,12 @@ use Rattle.key_ring.specs.Ring.{RingOf}
 use Rattle.repo_keeper.specs.Store.{Store}
 use Rattle.ring_world.specs.declared.step.Step.{Step}
 use Rattle.ring_world.specs.Course.{Course}
-use Rattle.ring_world.specs.Flight.{Refusal, Terms, Gathers, gather_course, gather_end, whole, cut, Flown, Broken, NoRead, ShortRead, NoDraw, NoKeyDraw, NoAppend, ShortAppend}
+use Rattle.ring_world.specs.Flight.{Refusal, Terms, Gathers, whole, cut, Flown, Broken, NoRead, ShortRead, NoDraw, NoKeyDraw, NoAppend, ShortAppend}
 use Rattle.ring_world.specs.Flight as flight
 use Rattle.node_calls.specs.declared.open.OpenRefused.{OpenRefused}
 use Rattle.node_calls.specs.declared.open.OpenRefused.TheVariants as refused
 use Rattle.node_calls.specs.HostState.{HostState}
-use Rattle.node_calls.specs.Books.{books, Does, tally, draws_failed}
+use Rattle.node_calls.specs.Books.{tally, draws_failed}
 use Rattle.node_calls.specs.Calls.{terms}
 use Rattle.node_calls.specs.Opening.{Opens}
 use Rattle.dp_node.specs.SoloOpening.{IsSolo, first_facts}

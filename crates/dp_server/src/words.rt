@@ -1,6 +1,6 @@
 //! The words of the program (docs/FORMATS.md, "Words").
 
-ghost use Rattle.std.specs.Prelude.{◌≡◌, ◌≤◌, ◌↔◌, ℕ, Bool, IfSome, IsSomeAnd, Some, IsNone, IsTrue, List, [], ◌∷◌, length, map, string_bytes, option_map};
+ghost use Rattle.std.specs.Prelude.{◌≡◌, ◌≤◌, ◌↔◌, ℕ, Bool, IfSome, IsSomeAnd, Some, IsNone, IsTrue, List, [], length, map, string_bytes, option_map};
 ghost use Rattle.std.specs.Fmt.{decimal};
 ghost use Rattle.dp_base.specs.declared.ticks.TheConstants.{MAX_TICKS};
 ghost use Rattle.dp_server.specs.Words.{IsPlain, IsShow, IsPipe, IsValue, PipeOption, Settings, AreOptions, with_option};

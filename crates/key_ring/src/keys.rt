@@ -3,7 +3,7 @@
 ghost use Rattle.std.specs.Prelude.{◌≡◌, OnOk, IfOk, map};
 ghost use Rattle.std.specs.Option.{option_copied};
 ghost use Rattle.key_ring.specs.Put.{put_record};
-ghost use Rattle.key_ring.specs.Keys.{key_in, keys_of, ring_key, ring_keys, fact_of, is_usable};
+ghost use Rattle.key_ring.specs.Keys.{key_in, keys_of, ring_keys, fact_of, is_usable};
 
 use crate::elements::element_at;
 use crate::revoked::is_revoked;

@@ -1,8 +1,8 @@
 //! A ring.
 
-ghost use Rattle.std.specs.Prelude.{◌≡◌, ◌<◌, ◌≤◌, ◌/◌, ◌==◌, IfOk, find, length, option_and_then, option_map, slice_get, string_bytes};
+ghost use Rattle.std.specs.Prelude.{◌≡◌, ◌<◌, ◌≤◌, ◌/◌, ◌==◌, IfOk, find, length, option_map, string_bytes};
 ghost use Rattle.std.specs.Arc.{arc_value};
-ghost use Rattle.std.specs.Option.{option_copied, option_or};
+ghost use Rattle.std.specs.Option.{option_copied};
 ghost use Rattle.dp_base.specs.declared.ticks.TheConstants.{LAST};
 ghost use Rattle.key_ring.specs.Ring.{IsRing, ring_of, until_with, due, extended, policy_at, preferred_key, default_key};
 ghost use Rattle.key_ring.specs.Keys.{ring_keys};
@@ -62,7 +62,7 @@ impl Model for Ring {
     } };
 
     ghost invariant = { λ r. IsRing (arc_value r.body).list r.made_at
-      (arc_value (arc_value r.body).keys).items r.policy };
+        (arc_value (arc_value r.body).keys).items r.policy };
 }
 
 // The key with the id.
@@ -274,13 +274,7 @@ impl Ring {
             ≡ listing self.now.list self.now.made_at) }
         ensures short { IfOk result (λ text. length (string_bytes text) < LISTING_LIMIT) }
     {
-        text_of(
-            alloc,
-            self.list(),
-            self.keys(),
-            self.policy,
-            self.made_at,
-        )
+        text_of(alloc, self.list(), self.keys(), self.policy, self.made_at)
     }
 }
 

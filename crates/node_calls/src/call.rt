@@ -1,6 +1,6 @@
 //! A call that needs a ring.
 
-ghost use Rattle.std.specs.Prelude.{◌≡◌, ◌+◌, ◌≤◌, false, true, List, [], length, max, IfOk, Bool, Option};
+ghost use Rattle.std.specs.Prelude.{◌≡◌, ◌+◌, ◌≤◌, false, true, List, [], length, max, IfOk, Option};
 ghost use Rattle.dp_base.specs.declared.key_id.KeyId.{KeyId};
 ghost use Rattle.dp_base.specs.declared.ticks.TheConstants.{LAST};
 ghost use Rattle.key_elements.specs.declared.element.Element.{Element};

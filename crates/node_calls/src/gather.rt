@@ -1,10 +1,10 @@
 //! What a flight reads, draws and appends.
 
-ghost use Rattle.std.specs.Prelude.{◌/◌, Bool, ◌≡◌, ◌↔◌, ◌+◌, ◌-◌, ◌<◌, ◌≤◌, ◌++◌, ◌∷◌, [], ℕ, List, length, map, Err, IfOk, Option, IsTrue};
+ghost use Rattle.std.specs.Prelude.{◌/◌, Bool, ◌≡◌, ◌↔◌, ◌+◌, ◌-◌, ◌<◌, ◌≤◌, ◌++◌, ℕ, List, length, Err, IfOk, Option};
 ghost use Rattle.std.specs.List.{AllByRecursion};
 ghost use Rattle.default_key.specs.declared.options.Options.{Options};
 ghost use Rattle.dp_base.specs.Draws.{DrawState};
-ghost use Rattle.dp_base.specs.declared.ticks.TheConstants.{LAST, MAX_TICKS};
+ghost use Rattle.dp_base.specs.declared.ticks.TheConstants.{LAST};
 ghost use Rattle.dp_base.specs.Codes.{code_of};
 ghost use Rattle.key_elements.specs.declared.element.Element.{Element};
 ghost use Rattle.key_elements.specs.declared.list.TheConstants.{MAX_ELEMENTS};

@@ -1,6 +1,6 @@
 //! Calls that append an element to what a pass has seen.
 
-ghost use Rattle.std.specs.Prelude.{◌≡◌, ◌↔◌, ◌+◌, ◌<◌, ◌≤◌, false, true, ℕ, List, [], length, IfOk, Err, OnErr};
+ghost use Rattle.std.specs.Prelude.{◌≡◌, ◌↔◌, ◌+◌, ◌<◌, ◌≤◌, false, true, [], length, IfOk, Err, OnErr};
 ghost use Rattle.dp_base.specs.declared.ticks.TheConstants.{LAST, MAX_TICKS};
 ghost use Rattle.dp_base.specs.Codes.{code_of};
 ghost use Rattle.dp_base.specs.Draws.{DrawState};

@@ -1,6 +1,6 @@
 //! The one more try for a key that is missing.
 
-ghost use Rattle.std.specs.Prelude.{◌≡◌, ◌+◌, ◌≤◌, false, true, length, IfOk, Bool, Option, List, nat_lt};
+ghost use Rattle.std.specs.Prelude.{◌≡◌, ◌+◌, ◌≤◌, false, true, length, IfOk, Option, List, nat_lt};
 ghost use Rattle.dp_base.specs.declared.key_id.KeyId.{KeyId};
 ghost use Rattle.dp_base.specs.declared.ticks.TheConstants.{LAST};
 ghost use Rattle.key_elements.specs.declared.element.Element.{Element};

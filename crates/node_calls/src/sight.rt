@@ -5,7 +5,6 @@ ghost use Rattle.key_elements.specs.Lists.{Agree, Extends};
 ghost use Rattle.ring_world.specs.declared.step.TheConstants.{MAX_STEPS};
 ghost use Rattle.ring_world.specs.Flight.{look_step, sight_steps};
 ghost use Rattle.ring_world.specs.Path.{is_enough_for};
-ghost use Rattle.node_calls.specs.HostState.{MayShow};
 ghost use Rattle.node_calls.specs.Sight.{sight_of, sighted, SeenBy, LookRefused};
 
 use crate::error::{Fork, NodeError};

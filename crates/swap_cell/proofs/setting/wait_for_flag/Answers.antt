@@ -1,4 +1,4 @@
-use Rattle.std.proofs.Common.{◌≡◌, ◌<◌, subst, ◌∙◌}
+use Rattle.std.proofs.Common.{◌<◌, subst, ◌∙◌}
 use Rattle.swap_cell.proofs.Keeps.{flags, flag_within}
 use Rattle.swap_cell.proofs.setting.wait_for_flag.Goals as goal
 

@@ -1,4 +1,4 @@
-use Rattle.std.proofs.Common.{◌≡◌, ◌+◌, ◌<◌, subst, ◌∙◌, arith}
+use Rattle.std.proofs.Common.{◌<◌, subst, ◌∙◌, arith}
 use Rattle.swap_cell.proofs.Keeps.{flags, flag_within}
 use Rattle.swap_cell.proofs.viewing.refresh_any.Goals as goal
 

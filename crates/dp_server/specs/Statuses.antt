@@ -1,7 +1,7 @@
 -- The statuses of runs (docs/FORMATS.md, "Statuses").
 use Rattle.std.specs.Prelude.{◌≡◌, ◌<◌, ◌-◌, ◌^◌, ℕ}
 use Rattle.dp_session.specs.declared.status.Status.{Status}
-use Rattle.dp_session.specs.declared.status.Status.TheVariants.{Done, BadWords, BadInput, ReadFault, WriteFault, StoreFault, DrawFault, NoMemory, Spent}
+use Rattle.dp_session.specs.declared.status.Status.TheVariants.{Done, BadWords, BadInput, ReadFault, WriteFault, StoreFault, DrawFault, NoMemory, Spent, Forked}
 
 -- the statuses that an input may have that is a list
 abbrev pub IsAccepting : Status → Type 0
@@ -14,6 +14,7 @@ IsAccepting StoreFault = ⊥
 IsAccepting DrawFault = ⊥
 IsAccepting NoMemory = Unit {0}
 IsAccepting Spent = ⊥
+IsAccepting Forked = ⊥
 
 -- the statuses that an input may have that is none
 abbrev pub IsRefusing : Status → Type 0
@@ -26,6 +27,7 @@ IsRefusing StoreFault = ⊥
 IsRefusing DrawFault = ⊥
 IsRefusing NoMemory = Unit {0}
 IsRefusing Spent = ⊥
+IsRefusing Forked = ⊥
 
 -- the statuses with which show ends
 abbrev pub IsShowStatus : Status → Type 0
@@ -38,6 +40,7 @@ IsShowStatus StoreFault = ⊥
 IsShowStatus DrawFault = ⊥
 IsShowStatus NoMemory = Unit {0}
 IsShowStatus Spent = ⊥
+IsShowStatus Forked = ⊥
 
 -- a count didn't rise, and isn't at its end, where it can't
 abbrev pub StoodStill : ℕ → ℕ → Type 0

@@ -456,6 +456,7 @@ record CountsOf (u : Used) (steps : List Step) (old new : Books) : Type 0 where
   shorts : new.store.shorts ≡ more (tally steps).shorts old.store.shorts
   fulls : new.store.fulls ≡ more (tally steps).fulls old.store.fulls
   mine : new.store.mine ≡ old.store.mine ++ (tally steps).places
+  mark : new.store.mark ≡ old.store.mark
   own : CountsRefusal u steps old.draws new.draws
 
 module _ (q : Result Request BadRequest) (now : ℕ) (u : Used) (drawn : List ℕ) (old new : Books) where
@@ -469,6 +470,7 @@ module _ (q : Result Request BadRequest) (now : ℕ) (u : Used) (drawn : List �
         shorts = refl;
         fulls = refl;
         mine = sym (append-nil old.store.mine);
+        mark = refl;
         own = own;
       }))
 
@@ -483,6 +485,7 @@ module _ (q : Result Request BadRequest) (now : ℕ) (u : Used) (drawn : List �
         shorts = ap (λ (s : Store). s.shorts) (sym store) ∙ x.recorded.store.shorts;
         fulls = ap (λ (s : Store). s.fulls) (sym store) ∙ x.recorded.store.fulls;
         mine = ap (λ (s : Store). s.mine) (sym store) ∙ x.recorded.store.mine;
+        mark = ap (λ (s : Store). s.mark) (sym store) ∙ x.recorded.store.mark;
         own = own;
       })
 
@@ -511,6 +514,7 @@ chain_counts [] [] old new p = record {
   shorts = ap (λ (s : SessionState). s.store.shorts) p;
   fulls = ap (λ (s : SessionState). s.store.fulls) p;
   mine = ap (λ (s : SessionState). s.store.mine) p ∙ sym (append-nil old.store.mine);
+  mark = ap (λ (s : SessionState). s.store.mark) p;
   draws = (0, omega arith, ap (λ (s : SessionState). s.draws.faults) p);
   refused = tt;
 }
@@ -526,6 +530,7 @@ chain_counts (b ∷ bodies) (e ∷ es) old new p =
       shorts = then_more _ _ _ _ _ one.shorts rest.shorts;
       fulls = then_more _ _ _ _ _ one.fulls rest.fulls;
       mine = rest.mine ∙ ap (λ (m : List ℕ). m ++ flat_map (λ (x : Entry). (tally x.steps).places) es) one.mine ∙ append_assoc old.store.mine (tally e.steps).places (flat_map (λ (x : Entry). (tally x.steps).places) es);
+      mark = rest.mark ∙ one.mark;
       draws = both_some _ _ _ _ _ _ _ one.own.draws rest.draws;
       refused = (one.own.refused, rest.refused);
     }

@@ -40,3 +40,4 @@ passed-ends app status.DrawFault bad a b P n e c h p = absurd e
 passed-ends app status.NoMemory bad a b P n e c h p =
     subst (HavePassed P) (sym (ap length e.0.entries ∙ c)) h
 passed-ends app status.Spent bad a b P n e c h p = absurd e
+passed-ends app status.Forked bad a b P n e c h p = absurd e

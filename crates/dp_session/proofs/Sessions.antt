@@ -278,6 +278,7 @@ session_ends app status.StoreFault bad old a b n p e = absurd e
 session_ends app status.DrawFault bad old a b n p e = absurd e
 session_ends app status.NoMemory bad old a b n p e = no_further app status.NoMemory (bad_at bad n) old a b n (λ o o' bytes w. w) e.0 p e.1
 session_ends app status.Spent bad old a b n p e = absurd e
+session_ends app status.Forked bad old a b n p e = absurd e
 
 -- a session ends behind its last request
 pub session_spent : (app : List ℕ) (st : Status) (old a : Outside) (after : Option (List ℕ)) (n : ℕ) → SoFar app old a n → IsSpentEnd st → EndsInput st None 0 a.input after → IsSession app st None old (with_input after a)
@@ -290,6 +291,7 @@ session_spent app status.WriteFault old a after n p is e = absurd is
 session_spent app status.StoreFault old a after n p is e = absurd is
 session_spent app status.DrawFault old a after n p is e = absurd is
 session_spent app status.NoMemory old a after n p is e = absurd is
+session_spent app status.Forked old a after n p is e = absurd is
 
 -- no request was served yet
 pub so_far-none : (app : List ℕ) (i o : Option (List ℕ)) (s : SessionState) → SoFar app (outside i o s [] []) (outside i o s [] []) 0
@@ -324,6 +326,7 @@ ends-few app status.StoreFault bad a b e = absurd e
 ends-few app status.DrawFault bad a b e = absurd e
 ends-few app status.NoMemory bad a b e = omega (arith, ap length e.0.entries)
 ends-few app status.Spent bad a b e = absurd e
+ends-few app status.Forked bad a b e = absurd e
 
 -- only a session whose last reply wasn't written has an entry more
 pub ends-same : (app : List ℕ) (st : Status) (bad : Option BadWhy) (a b : Outside) → EndsAt app st bad a b → (st ≡ status.WriteFault → ⊥) → length b.entries ≡ length a.entries
@@ -336,6 +339,7 @@ ends-same app status.StoreFault bad a b e other = absurd e
 ends-same app status.DrawFault bad a b e other = absurd e
 ends-same app status.NoMemory bad a b e other = ap length e.0.entries
 ends-same app status.Spent bad a b e other = absurd e
+ends-same app status.Forked bad a b e other = absurd e
 
 pub ends-spent : (app : List ℕ) (st : Status) (bad : Option BadWhy) (a b : Outside) → EndsAt app st bad a b → st ≡ status.Spent → ⊥
 ends-spent app st bad a b e is = subst (λ (s : Status). EndsAt app s bad a b) is e
@@ -358,3 +362,4 @@ ends-bad app status.StoreFault bad n a b e = absurd e
 ends-bad app status.DrawFault bad n a b e = absurd e
 ends-bad app status.NoMemory bad n a b e = named_none bad n status.NoMemory e.2 (λ h. cc)
 ends-bad app status.Spent bad n a b e = absurd e
+ends-bad app status.Forked bad n a b e = absurd e

@@ -80,7 +80,8 @@ all_steps es = flat_map (λ e. e.steps) es
 -- the last acts of the pass are those of the steps of the entries, behind those that were there; the
 -- counts of repository and draw rose by what these steps say, those of the repository's calls and of the
 -- draw's faults also by one at the most for each request that found no memory, and the latter for the
--- payloads; the places are those of their appends, and each refusal that has a count has it
+-- payloads; the places are those of their appends; the repository's mark is what it was; and each refusal
+-- that has a count has it
 pub record AreCountedBy (es : List Entry) (old new : SessionState) : Type 0 where
   pub acts : latest new.host.acts ≡ latest (old.host.acts ++ acts (length old.host.looked.list) (all_steps es))
   pub calls : (k : ℕ) × (k ≤ total (λ e. no_memory e.used) es)
@@ -89,6 +90,7 @@ pub record AreCountedBy (es : List Entry) (old new : SessionState) : Type 0 wher
   pub shorts : new.store.shorts ≡ more (total (λ e. (tally e.steps).shorts) es) old.store.shorts
   pub fulls : new.store.fulls ≡ more (total (λ e. (tally e.steps).fulls) es) old.store.fulls
   pub mine : new.store.mine ≡ old.store.mine ++ flat_map (λ e. (tally e.steps).places) es
+  pub mark : new.store.mark ≡ old.store.mark
   pub draws : (k : ℕ) × (k ≤ total (λ e. no_memory e.used) es)
       × (new.draws.faults ≡ more (total (λ e. draw_faults e.used e.steps) es + k) old.draws.faults)
   pub refused : AllByRecursion (λ e. IsCounted e.used e.steps) es

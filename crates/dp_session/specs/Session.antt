@@ -109,6 +109,7 @@ EndsAt app status.StoreFault bad old new = ⊥
 EndsAt app status.DrawFault bad old new = ⊥
 EndsAt app status.NoMemory bad old new = NoMore old new × (new.input ≡ old.input) × (bad ≡ None)
 EndsAt app status.Spent bad old new = ⊥
+EndsAt app status.Forked bad old new = ⊥
 
 -- what a session is asked, and what it has come to
 abbrev pub outside : Option (List ℕ) → Option (List ℕ) → SessionState → List Entry → List Element → Outside
@@ -160,6 +161,7 @@ EndsInput status.DrawFault bad place left after = ⊥
 EndsInput status.NoMemory bad place left after = after ≡ left
 EndsInput status.Spent bad place left after =
     IfSome left (λ bytes. (1 ≤ length bytes) × (after ≡ Some (drop 1 bytes)))
+EndsInput status.Forked bad place left after = ⊥
 
 -- where bad input is, where there is such
 abbrev pub bad_at : Option BadWhy → ℕ → Option BadPlace

@@ -24,6 +24,8 @@ pub enum Status {
     NoMemory = 8,
     /// As many requests were served as one session serves, and there is more input.
     Spent = 9,
+    /// An audit refused, or a number isn't the one that its run is to have.
+    Forked = 10,
 }
 
 impl Status {
@@ -48,6 +50,7 @@ impl Status {
             Status::DrawFault => Some("dp_server: drawing random bytes failed"),
             Status::NoMemory => Some("dp_server: out of memory"),
             Status::Spent => Some("dp_server: too many requests in one session"),
+            Status::Forked => Some("dp_server: the run differs from its history"),
         }
     }
 }

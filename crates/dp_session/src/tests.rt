@@ -440,6 +440,11 @@ fn statuses(rt: HostRuntime) {
             9,
             Some("dp_server: too many requests in one session"),
         ),
+        (
+            Status::Forked,
+            10,
+            Some("dp_server: the run differs from its history"),
+        ),
     ];
     for (status, number, message) in table {
         assert_eq!(rt; status.number(), number);
